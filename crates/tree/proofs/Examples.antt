@@ -2,7 +2,7 @@
 use mathlib.Core.Path.{_≡_, refl, sym, ap, ap₂, _∙_, subst}
 use mathlib.Core.List.{List, [], _∷_}
 use mathlib.Core.Bool.{Bool, true, false, not, _&&_, _||_}
-use mathlib.Core.Logic.{_⊎_, inl, inr, ⊎-elim}
+use mathlib.Core.Logic.{⊎-elim}
 use Prim.Native.Nat.{ℕ, _+_, _≤_, _<_}
 use lib.ListN.{getD}
 use lib.Dec.{eqb, ltb, leb}
@@ -11,7 +11,7 @@ use Rattle.std.proofs.shelf.Tests.{and-parts, and-from, or-cases, not-true, not
 use Rattle.tree.specs.Tables.{Table, Inside, join, single}
 use Rattle.tree.specs.Domains.{some?, every}
 use Rattle.tree.specs.Filter.{Problem, Lawful, Bounded, Full}
-use Rattle.tree.specs.Examples.{Constraint, lone, differ, at-most, all-stable, all-meet, problem, two-apart, apart-base, two-in-order, order-base}
+use Rattle.tree.specs.Examples.{Constraint, lone, differ, at-most, all-stable, problem, two-apart, apart-base, two-in-order, order-base}
 use Rattle.tree.proofs.Tables.{same-test, join-left, join-right}
 use Rattle.tree.proofs.Domains.{some?-from, some?-to, every-from, every-to, implied, implies, clash, no-clash}
 use Rattle.tree.proofs.Filter.{join-bounded}

@@ -1,13 +1,13 @@
 -- Each table has a node: that two stable tables joined are stable is used here, once. Assumes nothing.
-use mathlib.Core.Path.{_≡_, refl, sym, ap, ap₂, _∙_, subst}
+use mathlib.Core.Path.{_≡_, refl, sym, ap, ap₂, _∙_}
 use mathlib.Core.List.{List, [], _∷_}
-use mathlib.Core.Bool.{Bool, true, false, cond, _&&_, _||_}
+use mathlib.Core.Bool.{true, false, cond}
 use mathlib.Core.Logic.{_⊎_, inl, inr, ⊎-elim}
 use Prim.Native.Nat.{ℕ, zero, suc, _<_}
 use native.Mathlib.Omega.{arith}
-use Rattle.std.proofs.shelf.Tests.{and-parts, and-from, or-cases, or-left, or-right, both-ways, cases-eq, cases-bool, cond-both, cond-true}
+use Rattle.std.proofs.shelf.Tests.{and-parts, and-from, both-ways, cases-eq, cases-bool, cond-both}
 use Rattle.tree.specs.Tables.{Table, Inside, join, dropped}
-use Rattle.tree.specs.Filter.{Problem, Lawful, Bounded, Full, Fits, Filtered, Node, failed, table, NodeOf}
+use Rattle.tree.specs.Filter.{Problem, Lawful, Bounded, Full, Fits, Node, failed, table, NodeOf}
 use Rattle.tree.specs.Domains.{some?}
 use Rattle.tree.specs.Find.{full?, grid, cells, either, best, node}
 use Rattle.tree.proofs.Tables.{inside-both, inside-trans, join-left, join-right, join-least, dropped-inside, dropped-has, dropped-not}

@@ -1,5 +1,5 @@
 -- What filtering makes of a table is one, and filtering twice is filtering once. Assumes nothing.
-use mathlib.Core.Path.{_≡_, refl, sym, ap, _∙_, subst}
+use mathlib.Core.Path.{_≡_, refl, ap}
 use mathlib.Core.Logic.{_↔_, ⊎-elim}
 use Prim.Native.Nat.{ℕ}
 use Rattle.std.proofs.shelf.Tests.{or-cases}

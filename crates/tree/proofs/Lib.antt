@@ -6,5 +6,6 @@ pub mod Exists
 pub mod Singles
 pub mod Trees
 pub mod Plans
+pub mod Budgets
 pub mod Rules
 pub mod Examples

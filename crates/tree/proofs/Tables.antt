@@ -1,13 +1,10 @@
 -- The order of tables. Assumes nothing.
-use mathlib.Core.Path.{_≡_, refl, sym, ap, _∙_, fun-ext, subst}
-use mathlib.Core.List.{List}
+use mathlib.Core.Path.{_≡_, refl, sym, fun-ext}
 use mathlib.Core.Bool.{Bool, true, false, not, _&&_, _||_}
-use mathlib.Core.Logic.{_⊎_, inl, inr, ⊎-elim}
-use Prim.Native.Nat.{ℕ, _<_}
-use lib.ListN.{length, getD}
-use lib.Dec.{eqb, ltb}
-use native.Mathlib.Omega.{arith}
-use Rattle.std.proofs.shelf.Tests.{and-parts, and-from, or-cases, or-left, or-right, not-true, not-from-false, eqb-true, eqb-false, eq-eqb, ne-eqb, ltb-true, lt-ltb, both-ways, cases-eq, cases-bool}
+use mathlib.Core.Logic.{⊎-elim}
+use Prim.Native.Nat.{ℕ}
+use lib.Dec.{eqb}
+use Rattle.std.proofs.shelf.Tests.{and-parts, and-from, or-cases, or-left, or-right, not-true, not-from-false, eqb-true, eq-eqb, both-ways, cases-bool}
 use Rattle.tree.specs.Tables.{Table, Inside, join, kept, dropped}
 
 -- tests that imply one another are the same

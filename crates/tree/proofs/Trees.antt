@@ -1,6 +1,6 @@
 -- The tree of a table: there is one and one only, and it ends. Assumes nothing.
 use mathlib.Core.Path.{_≡_, refl, sym, ap, _∙_, subst}
-use mathlib.Core.List.{List, [], _∷_, _++_}
+use mathlib.Core.List.{List, _∷_}
 use Prim.Native.Nat.{ℕ, zero, suc, _≤_, _<_}
 use lib.ListN.{length}
 use native.Mathlib.Omega.{arith}
@@ -8,11 +8,10 @@ use Rattle.std.specs.declared.option.Option.{Option}
 use Rattle.std.specs.declared.option.Option.the-variants.{Some, None}
 use Rattle.tree.specs.Tables.{Table, Open, Choice, kept, dropped, single}
 use Rattle.tree.specs.Filter.{Problem, Lawful, Bounded, Filtered, Node, failed, table, NodeOf}
-use Rattle.tree.specs.Search.{Rule, Picked, Picks, Tree, dead, plan, fork, TreeOf, Ends-within, nodes}
+use Rattle.tree.specs.Search.{Rule, Picked, Picks, Tree, dead, plan, fork, TreeOf, Ends-within, visited, nodes}
 use Rattle.tree.specs.Find.{grid, node, total, values, branch, grow, explore, tree, found, visit, parts, under}
-use Rattle.tree.proofs.Tables.{kept-inside, dropped-inside}
 use Rattle.tree.proofs.Pairs.{count-inside, kept-less, dropped-less}
-use Rattle.tree.proofs.Filter.{bounded-inside, filtered-bounded, kept-bounded, dropped-bounded, filtered-unique, Alike, filtered-alike, kept-alike, dropped-alike}
+use Rattle.tree.proofs.Filter.{filtered-bounded, kept-bounded, dropped-bounded, filtered-unique}
 use Rattle.tree.proofs.Exists.{node-is}
 use Rattle.tree.proofs.Singles.{single-closed, single-length, single-inside, closed-single}
 
@@ -100,23 +99,6 @@ module _ (P : Problem) (R : Rule) (laws : Lawful P) (picks : Picks P R) where
   pub tree-step : (D : Table) → Bounded P D → tree P R D ≡ grow P R (tree P R) (node P D)
   tree-step D b = tree-unique (tree P R D) (grow P R (tree P R) (node P D)) D b (tree-is D b) (grow-is D (tree P R) (node P D) b (node-is P laws D b) (λ E c l. tree-is E c))
 
-  -- the tree below a filtered table is that below the table it was filtered from
-  pub tree-alike : (D E : Table) (t : Tree) → Alike P D E → TreeOf P R D t → TreeOf P R E t
-  tree-alike D E dead k h = λ S e. h S (k S .1 e)
-  tree-alike D E (plan a) k h = filtered-alike P D E (single a) k h
-  tree-alike D E (fork T x v l r) k h = (filtered-alike P D E T k (h .0), h .1, h .2, h .3)
-
-  -- so a solver may start from the table that it was given, or from the filtered one
-  pub kept-tree : (D T : Table) (x v : ℕ) → Bounded P D → Filtered P D T → tree P R (kept x v T) ≡ tree P R (kept x v D)
-  kept-tree D T x v b f =
-      let c = bounded-inside P (kept x v D) D (kept-inside x v D) b in
-      tree-unique (tree P R (kept x v T)) (tree P R (kept x v D)) (kept x v D) c (tree-alike (kept x v T) (kept x v D) (tree P R (kept x v T)) (kept-alike P D T f x v) (tree-is (kept x v T) (kept-bounded P x v D T f b))) (tree-is (kept x v D) c)
-
-  pub dropped-tree : (D T : Table) (x v : ℕ) → Bounded P D → Filtered P D T → tree P R (dropped x v T) ≡ tree P R (dropped x v D)
-  dropped-tree D T x v b f =
-      let c = bounded-inside P (dropped x v D) D (dropped-inside x v D) b in
-      tree-unique (tree P R (dropped x v T)) (tree P R (dropped x v D)) (dropped x v D) c (tree-alike (dropped x v T) (dropped x v D) (tree P R (dropped x v T)) (dropped-alike P D T f x v) (tree-is (dropped x v T) (dropped-bounded P x v D T f b))) (tree-is (dropped x v D) c)
-
   -- the nodes of a tree, without a word of the tree: the root, and what is under it
 
   nodes-branch : (T : Table) (o : Option (ℕ × ℕ)) → nodes (branch P (tree P R) T o) ≡ found P T o ∷ parts P R T o
@@ -129,3 +111,12 @@ module _ (P : Problem) (R : Rule) (laws : Lawful P) (picks : Picks P R) where
 
   pub nodes-under : (D : Table) → Bounded P D → nodes (tree P R D) ≡ visit P R (node P D) ∷ under P R (node P D)
   nodes-under D b = ap nodes (tree-step D b) ∙ nodes-grow (node P D)
+
+  -- the node that a visit finds is the node of the table
+  pub visited-visit : (D : Table) (N : Node) → Bounded P D → NodeOf P D N → visited (visit P R N) ≡ N
+  visited-visit D failed b h = refl
+  visited-visit D (table T) b h = at (R T) refl
+    where
+      at : (o : Option (ℕ × ℕ)) → R T ≡ o → visited (found P T o) ≡ table T
+      at None e = ap table (sym (plan-table P R picks D T h b e))
+      at (Some p) e = refl

@@ -8,10 +8,10 @@ use lib.Dec.{eqb, ltb, leb}
 use Rattle.tree.specs.Tables.{Table}
 use Rattle.tree.specs.Domains.{some?, every}
 use Rattle.tree.specs.Filter.{Problem, Lawful, Bounded, Node, failed, table}
-use Rattle.tree.specs.Search.{Picks, nodes, plans, visited}
+use Rattle.tree.specs.Search.{nodes, plans, visited}
 use Rattle.tree.specs.Find.{grid, cells, tree}
 use Rattle.tree.specs.Rules.{first}
-use Rattle.tree.specs.Budget.{Answer, planned, done, spent, calls}
+use Rattle.tree.specs.Budget.{planned, done, spent, calls}
 
 -- What one constraint record asks of a table, and of one value for each variable.
 pub record Constraint : Type 0 where
@@ -72,7 +72,6 @@ pub record Examples-are-lawful : Type 0 where
   pub apart-bounded : Bounded two-apart apart-base
   pub order : Lawful two-in-order
   pub order-bounded : Bounded two-in-order order-base
-  pub rule : (P : Problem) → Picks P (first (P .variables) (P .width))
 
 -- Plans, nodes and answers, by computing.
 pub record Examples-compute : Type 0 where

@@ -1,14 +1,16 @@
 -- What holds of every problem, rule and table. Assumes nothing.
 use mathlib.Core.Path.{_≡_}
 use mathlib.Core.Bool.{true}
-use mathlib.Core.List.{List, [], _∷_, _++_}
+use mathlib.Core.List.{List, _++_}
 use mathlib.Core.Logic.{_≢_, _↔_}
 use Prim.Native.Nat.{ℕ, _*_, _≤_, _<_}
 use lib.ListN.{length, take, drop}
+use Rattle.std.specs.declared.option.Option.the-variants.{Some}
 use Rattle.tree.specs.Tables.{Table, kept, dropped}
-use Rattle.tree.specs.Filter.{Problem, Lawful, Bounded, Solves, Filtered, Node, NodeOf}
+use Rattle.tree.specs.Filter.{Problem, Lawful, Bounded, Full, Solves, Filtered, Node, NodeOf}
 use Rattle.tree.specs.Search.{Rule, Picks, Tree, TreeOf, Ends-within, Visit, nodes, plans, plans-among, Listed, Ordered, Front, Before}
 use Rattle.tree.specs.Find.{node, tree, total}
+use Rattle.tree.specs.Rules.{First, Small, first, small}
 use Rattle.tree.specs.Budget.{Answer, scan, Answers, calls, counts, gives, ends, At-least}
 
 -- Each table has one node and no other, and `node` finds it.
@@ -20,6 +22,14 @@ abbrev pub Filtered-once : Type 0
 Filtered-once =
     (P : Problem) (D T : Table) (x v : ℕ) → Filtered P D T → (N : Node) →
     (NodeOf P (kept x v T) N ↔ NodeOf P (kept x v D) N) × (NodeOf P (dropped x v T) N ↔ NodeOf P (dropped x v D) N)
+
+-- The rules `first` and `small` keep the law of a rule, and each answers a pair exactly where no domain is empty and the pair is
+-- the one that it is to answer.
+pub record Rules-choose : Type 0 where
+  pub first-picks : (P : Problem) → Picks P (first (P .variables) (P .width))
+  pub first-is : (P : Problem) (T : Table) (x v : ℕ) → Bounded P T → (first (P .variables) (P .width) T ≡ Some (x, v)) ↔ (Full P T × First T x v)
+  pub small-picks : (P : Problem) → Picks P (small (P .variables) (P .width))
+  pub small-is : (P : Problem) (T : Table) (x v : ℕ) → Bounded P T → (small (P .variables) (P .width) T ≡ Some (x, v)) ↔ (Full P T × Small (P .width) T x v)
 
 -- Each table has one tree and no other, and `tree` finds it.
 abbrev pub Tree-is-one : Type 0
@@ -40,8 +50,8 @@ abbrev pub Plans-are-all : Type 0
 Plans-are-all = (P : Problem) (R : Rule) (D : Table) (t : Tree) → Lawful P → Picks P R → Bounded P D → TreeOf P R D t → Plans P D t
 
 -- The plans among the first m nodes are the front of the plan list, and those among the other nodes the rest of it.
-abbrev pub Plans-of-the-first : Type 0
-Plans-of-the-first = (t : Tree) (m : ℕ) → plans-among (take m (nodes t)) ++ plans-among (drop m (nodes t)) ≡ plans t
+abbrev pub Plans-in-front : Type 0
+Plans-in-front = (t : Tree) (m : ℕ) → plans-among (take m (nodes t)) ++ plans-among (drop m (nodes t)) ≡ plans t
 
 -- A call answers by the rule of the answers, and no other answer keeps it.
 abbrev pub Answer-is-one : Type 0
