@@ -5,7 +5,6 @@ use mathlib.Core.List.{List, [], _∷_, _++_}
 use mathlib.Core.Logic.{_⊎_, inl, inr, ⊎-elim}
 use Prim.Native.Nat.{ℕ, zero, suc, _+_, _≤_, _<_}
 use native.Mathlib.Nat.{zero-add}
-use native.Mathlib.Numerals.{one-add}
 use native.Mathlib.Omega.{arith}
 use lib.ListN.{length, take, drop, length-append, length-drop, take-append-drop}
 use lib.Seq.{take-all, take-add}
@@ -110,7 +109,7 @@ scan-only (is-plan a ∷ ns) (suc b) r h = only-first a ns b r h
 scan-only (is-open T ∷ ns) (suc b) r h = only-more (is-open T) ns b (λ ms. refl) (λ a e. let z : _≡_ {A = ℕ} 0 1 = cc in omega arith) (scan-only ns b) r h
 scan-only (is-failed ∷ ns) (suc b) r h = only-more is-failed ns b (λ ms. refl) (λ a e. let z : _≡_ {A = ℕ} 0 1 = cc in omega arith) (scan-only ns b) r h
 
--- what one call counts and gives
+-- what the rule of the answers says of the count and of the plan given
 
 pub record Scanned (ns : List Visit) (b : ℕ) (r : Answer) : Type 0 where
   pub within : counted r ≤ length ns
@@ -119,17 +118,37 @@ pub record Scanned (ns : List Visit) (b : ℕ) (r : Answer) : Type 0 where
   pub gives : given r ≡ plans-among (take (counted r) ns)
   pub whole : is-done r ≡ true → counted r ≡ length ns
 
-scanned-more : (n : Visit) (ns : List Visit) (b : ℕ) (r : Answer) → ((ms : List Visit) → plans-among (n ∷ ms) ≡ plans-among ms) → Scanned ns b r → Scanned (n ∷ ns) (suc b) (plus 1 r)
-scanned-more n ns b (planned a c) same f = record { within = omega (arith, f .within); budget = omega (arith, f .budget); moves = λ _ _. omega arith; gives = f .gives ∙ sym (same (take c ns)) ∙ ap (λ (k : ℕ). plans-among (take k (n ∷ ns))) (sym (one-add c)); whole = λ e. absurd (true≢false (sym e)) }
-scanned-more n ns b (done c) same f = record { within = omega (arith, f .within); budget = omega (arith, f .budget); moves = λ _ _. omega arith; gives = f .gives ∙ sym (same (take c ns)) ∙ ap (λ (k : ℕ). plans-among (take k (n ∷ ns))) (sym (one-add c)); whole = λ e. omega (arith, f .whole refl) }
-scanned-more n ns b (spent c) same f = record { within = omega (arith, f .within); budget = omega (arith, f .budget); moves = λ _ _. omega arith; gives = f .gives ∙ sym (same (take c ns)) ∙ ap (λ (k : ℕ). plans-among (take k (n ∷ ns))) (sym (one-add c)); whole = λ e. absurd (true≢false (sym e)) }
+first-plan : (a : List ℕ) (before after : List Visit) → plans-among before ≡ [] → plans-among (take (suc (length before)) (before ++ (is-plan a ∷ after))) ≡ a ∷ []
+first-plan a [] after p = refl
+first-plan a (is-failed ∷ before) after p = first-plan a before after p
+first-plan a (is-open T ∷ before) after p = first-plan a before after p
+first-plan a (is-plan u ∷ before) after p = absurd (some-plan u (plans-among before) p)
+
+pub answers-scanned : (ns : List Visit) (b : ℕ) (r : Answer) → Answers ns b r → Scanned ns b r
+answers-scanned ns b (planned a c) (before, after, e, p, k, le) = record {
+  within = omega (arith, ap length e ∙ length-append before (is-plan a ∷ after));
+  budget = le;
+  moves = λ _ _. omega arith;
+  gives = sym (ap₂ (λ (j : ℕ) (ms : List Visit). plans-among (take j ms)) k e ∙ first-plan a before after p);
+  whole = λ d. absurd (true≢false (sym d));
+}
+answers-scanned ns b (done c) (p, k, le) = record {
+  within = omega arith;
+  budget = le;
+  moves = λ _ h. omega arith;
+  gives = sym (ap plans-among (take-all c ns (omega arith)) ∙ p);
+  whole = λ _. k;
+}
+answers-scanned ns b (spent c) (p, k, lt) = record {
+  within = omega arith;
+  budget = omega arith;
+  moves = λ h _. omega arith;
+  gives = sym (ap (λ (j : ℕ). plans-among (take j ns)) k ∙ p);
+  whole = λ d. absurd (true≢false (sym d));
+}
 
 pub scanned : (ns : List Visit) (b : ℕ) → Scanned ns b (scan ns b)
-scanned [] b = record { within = omega arith; budget = omega arith; moves = λ _ h. absurd (omega arith); gives = refl; whole = λ _. refl }
-scanned (n ∷ ns) zero = record { within = omega arith; budget = omega arith; moves = λ h _. absurd (omega arith); gives = refl; whole = λ e. absurd (true≢false (sym e)) }
-scanned (is-plan a ∷ ns) (suc b) = record { within = omega arith; budget = omega arith; moves = λ _ _. omega arith; gives = refl; whole = λ e. absurd (true≢false (sym e)) }
-scanned (is-open T ∷ ns) (suc b) = scanned-more (is-open T) ns b (scan ns b) (λ ms. refl) (scanned ns b)
-scanned (is-failed ∷ ns) (suc b) = scanned-more is-failed ns b (scan ns b) (λ ms. refl) (scanned ns b)
+scanned ns b = answers-scanned ns b (scan ns b) (scan-answers ns b)
 
 -- runs of calls
 
