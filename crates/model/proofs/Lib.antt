@@ -1,0 +1,9 @@
+pub mod Entries
+pub mod Rows
+pub mod Layouts
+pub mod Scanning
+pub mod Heads
+pub mod Filling
+pub mod Drafting
+pub mod Steps
+pub mod Models

@@ -1,0 +1,9 @@
+pub mod Values
+pub mod Kinds
+pub mod Faults
+pub mod Layout
+pub mod Reading
+pub mod Drafts
+pub mod Scans
+pub mod Meaning
+pub mod Promises

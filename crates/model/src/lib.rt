@@ -1,0 +1,8 @@
+mod draft;
+pub mod fault;
+mod fill;
+pub mod kind;
+pub mod model;
+mod read;
+mod scan;
+pub mod values;

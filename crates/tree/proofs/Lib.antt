@@ -1,0 +1,11 @@
+pub mod Tables
+pub mod Domains
+pub mod Pairs
+pub mod Filter
+pub mod Exists
+pub mod Singles
+pub mod Trees
+pub mod Plans
+pub mod Budgets
+pub mod Rules
+pub mod Examples

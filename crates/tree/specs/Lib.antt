@@ -1,0 +1,9 @@
+pub mod Tables
+pub mod Domains
+pub mod Filter
+pub mod Search
+pub mod Find
+pub mod Budget
+pub mod Rules
+pub mod Examples
+pub mod Theorems
