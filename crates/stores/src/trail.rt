@@ -1,0 +1,157 @@
+ghost use mathlib.Core.Path.{_≡_};
+ghost use mathlib.Core.List.{[], _++_};
+ghost use Prim.Native.Nat.{_≤_};
+ghost use lib.ListN.{length, take, drop, replicate};
+ghost use Rattle.stores.specs.Rows.{sizeFor, Rows, Reads, Writes, Marks, Restores, Keeps, Unaltered};
+ghost use Rattle.stores.specs.Trails.{TrailSound, trailRows, Undid, blank, trailDepth};
+use crate::front::fill;
+use crate::store::Store;
+use crate::store::StoreFault;
+
+#[derive(Clone, Copy, Drop)]
+pub struct Cell {
+    pub value: u64,
+    pub stamp: u32,
+}
+
+#[derive(Clone, Copy, Drop)]
+pub struct Entry {
+    pub cell: usize,
+    pub value: u64,
+    pub stamp: u32,
+}
+
+#[derive(Drop)]
+pub struct Trail<'a> {
+    cells: &'a mut [Cell],
+    entries: &'a mut [Entry],
+    size: usize,
+    depth: usize,
+    marks: u32,
+    used: usize,
+    starts: [usize; 65],
+}
+
+impl<'a> Trail<'a> {
+    pub fn open(cells: &'a mut [Cell], entries: &'a mut [Entry], wanted: usize) -> Trail<'a>
+        ensures sound { λ r. ⌜ TrailSound r ⌝ }
+        ensures rows { λ r. ⌜ trailRows r ≡ record { row = replicate (sizeFor wanted (length (now (cells .entry)))) 0; saved = []; depth = trailDepth (length (now (entries .entry))) (sizeFor wanted (length (now (cells .entry)))) } ⌝ }
+        ensures past { λ r. ⌜ r .cells .now ≡ replicate (r .size) blank ++ drop (r .size) (now (cells .entry)) ⌝ }
+        ensures entries { λ r. ⌜ r .entries .now ≡ now (entries .entry) ⌝ }
+    {
+        let size = wanted.min(cells.len()).min(256);
+        let depth = if size == 0 {
+            0
+        } else {
+            (entries.len() / size).min(65)
+        };
+        fill(cells, size, Cell { value: 0, stamp: 0 });
+        Trail {
+            cells,
+            entries,
+            size,
+            depth,
+            marks: 0,
+            used: 0,
+            starts: [0; 65],
+        }
+    }
+
+    // Puts back what the entries from `from` to `to` hold, newest first.
+    fn undo(&mut self, from: usize, to: usize)
+        requires { ⌜ to ≤ length (now self .entries .now) ⌝ }
+        ensures { λ _. ⌜ Undid (now (self .entry)) from to (now (self .exit)) ⌝ }
+    {
+        let mut left = to;
+        while left > from {
+            left -= 1;
+            let entry = self.entries[left];
+            if entry.cell < self.size && entry.cell < self.cells.len() {
+                self.cells[entry.cell] = Cell {
+                    value: entry.value,
+                    stamp: entry.stamp,
+                };
+            }
+        }
+    }
+}
+
+pub impl Store for Trail<'_> as TrailStore {
+    ghost rows = { trailRows };
+
+    ghost sound = { TrailSound };
+
+    fn size(&self) -> usize {
+        self.size
+    }
+
+    fn depth(&self) -> usize {
+        self.depth
+    }
+
+    fn marks(&self) -> usize {
+        self.marks as usize
+    }
+
+    fn read(&self, cell: usize) -> Result<u64, StoreFault> {
+        if cell >= self.size || cell >= self.cells.len() {
+            return Err(StoreFault::NoCell(cell));
+        }
+        Ok(self.cells[cell].value)
+    }
+
+    fn write(&mut self, cell: usize, value: u64) -> Result<(), StoreFault>
+        ensures does { λ r. ⌜ Keeps TrailSound (now (self .entry)) (now (self .exit)) (Writes (trailRows (now (self .entry))) cell value (trailRows (now (self .exit))) r) ⌝ }
+        ensures refused { λ r. ⌜ Unaltered r (now (self .entry)) (now (self .exit)) ⌝ }
+        ensures past { λ r. ⌜ drop (now (self .entry) .size) (now (self .exit) .cells .now) ≡ drop (now (self .entry) .size) (now (self .entry) .cells .now) ⌝ }
+    {
+        if cell >= self.size || cell >= self.cells.len() {
+            return Err(StoreFault::NoCell(cell));
+        }
+        let old = self.cells[cell];
+        if old.stamp != self.marks && self.used < self.entries.len() {
+            self.entries[self.used] = Entry {
+                cell,
+                value: old.value,
+                stamp: old.stamp,
+            };
+            self.used += 1;
+        }
+        self.cells[cell] = Cell {
+            value,
+            stamp: self.marks,
+        };
+        Ok(())
+    }
+
+    fn mark(&mut self) -> Result<(), StoreFault>
+        ensures does { λ r. ⌜ Keeps TrailSound (now (self .entry)) (now (self .exit)) (Marks (trailRows (now (self .entry))) (trailRows (now (self .exit))) r) ⌝ }
+        ensures refused { λ r. ⌜ Unaltered r (now (self .entry)) (now (self .exit)) ⌝ }
+        ensures past { λ r. ⌜ drop (now (self .entry) .size) (now (self .exit) .cells .now) ≡ drop (now (self .entry) .size) (now (self .entry) .cells .now) ⌝ }
+    {
+        let marks = self.marks as usize;
+        if marks >= self.depth || marks >= 65 {
+            return Err(StoreFault::Deep(marks));
+        }
+        self.starts[marks] = self.used;
+        self.marks += 1;
+        Ok(())
+    }
+
+    fn restore(&mut self) -> Result<(), StoreFault>
+        ensures does { λ r. ⌜ Keeps TrailSound (now (self .entry)) (now (self .exit)) (Restores (trailRows (now (self .entry))) (trailRows (now (self .exit))) r) ⌝ }
+        ensures refused { λ r. ⌜ Unaltered r (now (self .entry)) (now (self .exit)) ⌝ }
+        ensures past { λ r. ⌜ drop (now (self .entry) .size) (now (self .exit) .cells .now) ≡ drop (now (self .entry) .size) (now (self .entry) .cells .now) ⌝ }
+    {
+        if self.marks == 0 || self.marks > 65 {
+            return Err(StoreFault::NoMark);
+        }
+        let marks = self.marks - 1;
+        let from = self.starts[marks as usize];
+        let to = self.used.min(self.entries.len());
+        self.undo(from, to);
+        self.used = from;
+        self.marks = marks;
+        Ok(())
+    }
+}
