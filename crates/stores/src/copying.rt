@@ -3,8 +3,9 @@ ghost use mathlib.Core.List.{[], _++_};
 ghost use Prim.Native.Nat.{_≤_, _+_, _*_};
 ghost use lib.ListN.{length, drop, replicate};
 ghost use lib.Seq.{paste};
-ghost use Rattle.stores.specs.Rows.{sizeFor, Rows, Writes, Marks, Restores, Keeps, Unaltered};
-ghost use Rattle.stores.specs.Copies.{CopySound, copyRows, copyDepth};
+ghost use denote.Ref.{name};
+ghost use Rattle.stores.specs.Rows.{sizeFor, fresh, Writes, Marks, Restores, Keeps, Unaltered};
+ghost use Rattle.stores.specs.Copies.{CopySound, copyRows, Past, copyDepth};
 use crate::front::fill;
 use crate::store::Store;
 use crate::store::StoreFault;
@@ -30,8 +31,9 @@ fn copy(words: &mut [u64], from: usize, to: usize, size: usize)
 impl<'a> Copying<'a> {
     pub fn open(words: &'a mut [u64], wanted: usize) -> Copying<'a>
         ensures sound { λ r. ⌜ CopySound r ⌝ }
-        ensures rows { λ r. ⌜ copyRows r ≡ record { row = replicate (sizeFor wanted (length (now (words .entry)))) 0; saved = []; depth = copyDepth (length (now (words .entry))) (sizeFor wanted (length (now (words .entry)))) } ⌝ }
-        ensures past { λ r. ⌜ r .words .now ≡ replicate (r .size) 0 ++ drop (r .size) (now (words .entry)) ⌝ }
+        ensures rows { λ r. ⌜ copyRows r ≡ fresh (sizeFor wanted (length (now (words .entry)))) (copyDepth (length (now (words .entry))) (sizeFor wanted (length (now (words .entry))))) ⌝ }
+        ensures past { λ r. ⌜ r .words .now ≡ replicate (sizeFor wanted (length (now (words .entry)))) 0 ++ drop (sizeFor wanted (length (now (words .entry)))) (now (words .entry)) ⌝ }
+        ensures lent { λ r. ⌜ name (r .words) ≡ name (words .entry) ⌝ }
     {
         let size = wanted.min(words.len()).min(256);
         let depth = if size == 0 {
@@ -76,7 +78,8 @@ pub impl Store for Copying<'_> as CopyingStore {
     fn write(&mut self, cell: usize, value: u64) -> Result<(), StoreFault>
         ensures does { λ r. ⌜ Keeps CopySound (now (self .entry)) (now (self .exit)) (Writes (copyRows (now (self .entry))) cell value (copyRows (now (self .exit))) r) ⌝ }
         ensures refused { λ r. ⌜ Unaltered r (now (self .entry)) (now (self .exit)) ⌝ }
-        ensures past { λ r. ⌜ (CopySound (now (self .entry)) → drop (now (self .entry) .size * (now (self .entry) .depth + 1)) (now (self .exit) .words .now) ≡ drop (now (self .entry) .size * (now (self .entry) .depth + 1)) (now (self .entry) .words .now)) ⌝ }
+        ensures past { λ _. ⌜ (CopySound (now (self .entry)) → Past (now (self .entry)) (now (self .exit))) ⌝ }
+        ensures lent { λ _. ⌜ name (now (self .exit) .words) ≡ name (now (self .entry) .words) ⌝ }
     {
         if cell >= self.size || cell >= self.words.len() {
             return Err(StoreFault::NoCell(cell));
@@ -88,7 +91,8 @@ pub impl Store for Copying<'_> as CopyingStore {
     fn mark(&mut self) -> Result<(), StoreFault>
         ensures does { λ r. ⌜ Keeps CopySound (now (self .entry)) (now (self .exit)) (Marks (copyRows (now (self .entry))) (copyRows (now (self .exit))) r) ⌝ }
         ensures refused { λ r. ⌜ Unaltered r (now (self .entry)) (now (self .exit)) ⌝ }
-        ensures past { λ r. ⌜ (CopySound (now (self .entry)) → drop (now (self .entry) .size * (now (self .entry) .depth + 1)) (now (self .exit) .words .now) ≡ drop (now (self .entry) .size * (now (self .entry) .depth + 1)) (now (self .entry) .words .now)) ⌝ }
+        ensures past { λ _. ⌜ (CopySound (now (self .entry)) → Past (now (self .entry)) (now (self .exit))) ⌝ }
+        ensures lent { λ _. ⌜ name (now (self .exit) .words) ≡ name (now (self .entry) .words) ⌝ }
     {
         let size = self.size;
         let marks = self.marks;
@@ -104,7 +108,8 @@ pub impl Store for Copying<'_> as CopyingStore {
     fn restore(&mut self) -> Result<(), StoreFault>
         ensures does { λ r. ⌜ Keeps CopySound (now (self .entry)) (now (self .exit)) (Restores (copyRows (now (self .entry))) (copyRows (now (self .exit))) r) ⌝ }
         ensures refused { λ r. ⌜ Unaltered r (now (self .entry)) (now (self .exit)) ⌝ }
-        ensures past { λ r. ⌜ (CopySound (now (self .entry)) → drop (now (self .entry) .size * (now (self .entry) .depth + 1)) (now (self .exit) .words .now) ≡ drop (now (self .entry) .size * (now (self .entry) .depth + 1)) (now (self .entry) .words .now)) ⌝ }
+        ensures past { λ _. ⌜ (CopySound (now (self .entry)) → Past (now (self .entry)) (now (self .exit))) ⌝ }
+        ensures lent { λ _. ⌜ name (now (self .exit) .words) ≡ name (now (self .entry) .words) ⌝ }
     {
         let size = self.size;
         let marks = self.marks;

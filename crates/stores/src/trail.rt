@@ -1,9 +1,10 @@
 ghost use mathlib.Core.Path.{_≡_};
 ghost use mathlib.Core.List.{[], _++_};
 ghost use Prim.Native.Nat.{_≤_};
-ghost use lib.ListN.{length, take, drop, replicate};
-ghost use Rattle.stores.specs.Rows.{sizeFor, Rows, Reads, Writes, Marks, Restores, Keeps, Unaltered};
-ghost use Rattle.stores.specs.Trails.{TrailSound, trailRows, Undid, blank, trailDepth};
+ghost use lib.ListN.{length, drop, replicate};
+ghost use denote.Ref.{name};
+ghost use Rattle.stores.specs.Rows.{sizeFor, fresh, Reads, Writes, Marks, Restores, Keeps, Unaltered};
+ghost use Rattle.stores.specs.Trails.{TrailSound, trailRows, Past, Undid, blank, trailDepth};
 use crate::front::fill;
 use crate::store::Store;
 use crate::store::StoreFault;
@@ -35,9 +36,11 @@ pub struct Trail<'a> {
 impl<'a> Trail<'a> {
     pub fn open(cells: &'a mut [Cell], entries: &'a mut [Entry], wanted: usize) -> Trail<'a>
         ensures sound { λ r. ⌜ TrailSound r ⌝ }
-        ensures rows { λ r. ⌜ trailRows r ≡ record { row = replicate (sizeFor wanted (length (now (cells .entry)))) 0; saved = []; depth = trailDepth (length (now (entries .entry))) (sizeFor wanted (length (now (cells .entry)))) } ⌝ }
-        ensures past { λ r. ⌜ r .cells .now ≡ replicate (r .size) blank ++ drop (r .size) (now (cells .entry)) ⌝ }
-        ensures entries { λ r. ⌜ r .entries .now ≡ now (entries .entry) ⌝ }
+        ensures rows { λ r. ⌜ trailRows r ≡ fresh (sizeFor wanted (length (now (cells .entry)))) (trailDepth (length (now (entries .entry))) (sizeFor wanted (length (now (cells .entry))))) ⌝ }
+        ensures size { λ r. ⌜ r .size ≡ sizeFor wanted (length (now (cells .entry))) ⌝ }
+        ensures past { λ r. ⌜ r .cells .now ≡ replicate (sizeFor wanted (length (now (cells .entry)))) blank ++ drop (sizeFor wanted (length (now (cells .entry)))) (now (cells .entry)) ⌝ }
+        ensures entries { λ r. ⌜ r .entries ≡ entries .entry ⌝ }
+        ensures lent { λ r. ⌜ name (r .cells) ≡ name (cells .entry) ⌝ }
     {
         let size = wanted.min(cells.len()).min(256);
         let depth = if size == 0 {
@@ -103,7 +106,8 @@ pub impl Store for Trail<'_> as TrailStore {
     fn write(&mut self, cell: usize, value: u64) -> Result<(), StoreFault>
         ensures does { λ r. ⌜ Keeps TrailSound (now (self .entry)) (now (self .exit)) (Writes (trailRows (now (self .entry))) cell value (trailRows (now (self .exit))) r) ⌝ }
         ensures refused { λ r. ⌜ Unaltered r (now (self .entry)) (now (self .exit)) ⌝ }
-        ensures past { λ r. ⌜ drop (now (self .entry) .size) (now (self .exit) .cells .now) ≡ drop (now (self .entry) .size) (now (self .entry) .cells .now) ⌝ }
+        ensures past { λ _. ⌜ Past (now (self .entry)) (now (self .exit)) ⌝ }
+        ensures lent { λ _. ⌜ name (now (self .exit) .cells) ≡ name (now (self .entry) .cells) ⌝ }
     {
         if cell >= self.size || cell >= self.cells.len() {
             return Err(StoreFault::NoCell(cell));
@@ -127,7 +131,8 @@ pub impl Store for Trail<'_> as TrailStore {
     fn mark(&mut self) -> Result<(), StoreFault>
         ensures does { λ r. ⌜ Keeps TrailSound (now (self .entry)) (now (self .exit)) (Marks (trailRows (now (self .entry))) (trailRows (now (self .exit))) r) ⌝ }
         ensures refused { λ r. ⌜ Unaltered r (now (self .entry)) (now (self .exit)) ⌝ }
-        ensures past { λ r. ⌜ drop (now (self .entry) .size) (now (self .exit) .cells .now) ≡ drop (now (self .entry) .size) (now (self .entry) .cells .now) ⌝ }
+        ensures past { λ _. ⌜ Past (now (self .entry)) (now (self .exit)) ⌝ }
+        ensures lent { λ _. ⌜ name (now (self .exit) .cells) ≡ name (now (self .entry) .cells) ⌝ }
     {
         let marks = self.marks as usize;
         if marks >= self.depth || marks >= 65 {
@@ -141,7 +146,8 @@ pub impl Store for Trail<'_> as TrailStore {
     fn restore(&mut self) -> Result<(), StoreFault>
         ensures does { λ r. ⌜ Keeps TrailSound (now (self .entry)) (now (self .exit)) (Restores (trailRows (now (self .entry))) (trailRows (now (self .exit))) r) ⌝ }
         ensures refused { λ r. ⌜ Unaltered r (now (self .entry)) (now (self .exit)) ⌝ }
-        ensures past { λ r. ⌜ drop (now (self .entry) .size) (now (self .exit) .cells .now) ≡ drop (now (self .entry) .size) (now (self .entry) .cells .now) ⌝ }
+        ensures past { λ _. ⌜ Past (now (self .entry)) (now (self .exit)) ⌝ }
+        ensures lent { λ _. ⌜ name (now (self .exit) .cells) ≡ name (now (self .entry) .cells) ⌝ }
     {
         if self.marks == 0 || self.marks > 65 {
             return Err(StoreFault::NoMark);

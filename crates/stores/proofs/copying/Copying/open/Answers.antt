@@ -58,5 +58,6 @@ returns c =
         space = let f = fits n w (c .if-size-eq0 .depth) (omega arith) depth in omega (arith, c .fill .kept .places);
       };
       rows = ap (λ (r : List ℕ). rowsOf r (c .if-size-eq0 .depth)) (row ∙ ap (λ (k : ℕ). replicate k 0) size) ∙ ap (rowsOf (replicate (sizeFor (c .args .wanted) w) 0)) (depth ∙ ap (copyDepth w) size);
-      past = c .fill .ensures;
+      past = subst (λ (k : ℕ). words ≡ replicate k 0 ++ drop k old) size (c .fill .ensures);
+      lent = refl;
     }

@@ -52,6 +52,8 @@ returns c =
         fine = rw row (λ i h. let l : i < n = omega (arith, length-replicate n blank) in rw (getD-replicate n i blank blank l) (omega arith));
       };
       rows = ap (λ (r : List ℕ). rowsOf r (c .if-size-eq0 .depth)) (ap values row ∙ map-replicate (λ (x : Cell). x .value) n blank ∙ ap (λ (k : ℕ). replicate k 0) size) ∙ ap (rowsOf (replicate (sizeFor (c .args .wanted) (length old)) 0)) (depth ∙ ap (trailDepth es) size);
-      past = c .fill .ensures;
+      size = size;
+      past = subst (λ (k : ℕ). cells ≡ replicate k blank ++ drop k old) size (c .fill .ensures);
+      lent = refl;
       entries = refl;
     }
