@@ -1,15 +1,19 @@
 ghost use mathlib.Core.Path.{_≡_};
-ghost use mathlib.Core.List.{[], _++_};
-ghost use Prim.Native.Nat.{_≤_, _+_, _*_};
+ghost use mathlib.Core.List.{_++_};
+ghost use Prim.Native.Nat.{_≤_, _+_};
 ghost use lib.ListN.{length, drop, replicate};
 ghost use lib.Seq.{paste};
 ghost use denote.Ref.{name};
 ghost use Rattle.stores.specs.Rows.{sizeFor, fresh, Writes, Marks, Restores, Keeps, Unaltered};
-ghost use Rattle.stores.specs.Copies.{CopySound, copyRows, Past, copyDepth};
-use crate::front::fill;
+ghost use Rattle.stores.specs.Copies.{CopySound, copyRows, copyDepth, Past};
+use crate::opening::fill;
+use crate::opening::row_size;
+use crate::opening::whole_rows;
+use crate::store::MOST_MARKS;
 use crate::store::Store;
 use crate::store::StoreFault;
 
+// A store that copies its row at every mark: the row is the front of the words, and the saved rows follow it, oldest first.
 #[derive(Drop)]
 pub struct Copying<'a> {
     words: &'a mut [u64],
@@ -29,18 +33,17 @@ fn copy(words: &mut [u64], from: usize, to: usize, size: usize)
 }
 
 impl<'a> Copying<'a> {
+    // Opens a store over the words, with a row of zeros of at most the size wanted and no row saved.
     pub fn open(words: &'a mut [u64], wanted: usize) -> Copying<'a>
         ensures sound { λ r. ⌜ CopySound r ⌝ }
         ensures rows { λ r. ⌜ copyRows r ≡ fresh (sizeFor wanted (length (now (words .entry)))) (copyDepth (length (now (words .entry))) (sizeFor wanted (length (now (words .entry))))) ⌝ }
         ensures past { λ r. ⌜ r .words .now ≡ replicate (sizeFor wanted (length (now (words .entry)))) 0 ++ drop (sizeFor wanted (length (now (words .entry)))) (now (words .entry)) ⌝ }
         ensures lent { λ r. ⌜ name (r .words) ≡ name (words .entry) ⌝ }
     {
-        let size = wanted.min(words.len()).min(256);
-        let depth = if size == 0 {
-            0
-        } else {
-            (words.len() / size).saturating_sub(1).min(65)
-        };
+        let size = row_size(wanted, words.len());
+        let depth = whole_rows(words.len(), size)
+            .saturating_sub(1)
+            .min(MOST_MARKS);
         fill(words, size, 0);
         Copying {
             words,
@@ -69,7 +72,7 @@ pub impl Store for Copying<'_> as CopyingStore {
     }
 
     fn read(&self, cell: usize) -> Result<u64, StoreFault> {
-        if cell >= self.size || cell >= self.words.len() {
+        if cell >= self.size.min(self.words.len()) {
             return Err(StoreFault::NoCell(cell));
         }
         Ok(self.words[cell])
@@ -81,7 +84,7 @@ pub impl Store for Copying<'_> as CopyingStore {
         ensures past { λ _. ⌜ (CopySound (now (self .entry)) → Past (now (self .entry)) (now (self .exit))) ⌝ }
         ensures lent { λ _. ⌜ name (now (self .exit) .words) ≡ name (now (self .entry) .words) ⌝ }
     {
-        if cell >= self.size || cell >= self.words.len() {
+        if cell >= self.size.min(self.words.len()) {
             return Err(StoreFault::NoCell(cell));
         }
         self.words[cell] = value;

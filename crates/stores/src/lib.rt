@@ -1,6 +1,6 @@
 pub mod ceiling;
 pub mod copying;
-mod front;
+mod opening;
 pub mod store;
 pub mod tally;
 pub mod trail;

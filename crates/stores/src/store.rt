@@ -2,6 +2,12 @@ ghost use mathlib.Core.Path.{_≡_};
 ghost use lib.ListN.{length};
 ghost use Rattle.stores.specs.Rows.{number, place, Rows, Reads, Writes, Marks, Restores, Keeps, Unaltered};
 
+// The longest row that a store opens with.
+pub const MOST_CELLS: usize = 256;
+
+// The most rows that a store saves at a time.
+pub const MOST_MARKS: usize = 65;
+
 // Why a store refused a call.
 #[derive(Clone, Copy, PartialEq, Eq, Debug)]
 pub enum StoreFault {

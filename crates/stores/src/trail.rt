@@ -1,39 +1,48 @@
 ghost use mathlib.Core.Path.{_≡_};
-ghost use mathlib.Core.List.{[], _++_};
+ghost use mathlib.Core.List.{_++_};
 ghost use Prim.Native.Nat.{_≤_};
 ghost use lib.ListN.{length, drop, replicate};
 ghost use denote.Ref.{name};
-ghost use Rattle.stores.specs.Rows.{sizeFor, fresh, Reads, Writes, Marks, Restores, Keeps, Unaltered};
+ghost use Rattle.stores.specs.Rows.{sizeFor, fresh, Writes, Marks, Restores, Keeps, Unaltered};
 ghost use Rattle.stores.specs.Trails.{TrailSound, trailRows, Past, Undid, blank, trailDepth};
-use crate::front::fill;
+use crate::opening::fill;
+use crate::opening::row_size;
+use crate::opening::whole_rows;
+use crate::store::MOST_MARKS;
 use crate::store::Store;
 use crate::store::StoreFault;
 
+// A cell of the row: what it holds, and how many marks stood when it was last saved.
 #[derive(Clone, Copy, Drop)]
 pub struct Cell {
     pub value: u64,
-    pub stamp: u32,
+    pub stamp: usize,
 }
 
+// What a cell held before a write.
 #[derive(Clone, Copy, Drop)]
 pub struct Entry {
     pub cell: usize,
     pub value: u64,
-    pub stamp: u32,
+    pub stamp: usize,
 }
 
+// A store that keeps what writes replace: a mark saves nothing yet, and a cell is saved at its first write after a mark.
+// Whether it was saved already, its stamp tells (Aggoun and Beldiceanu 1990). The entries before `used` are in use;
+// `starts` says how many were at each standing mark.
 #[derive(Drop)]
 pub struct Trail<'a> {
     cells: &'a mut [Cell],
     entries: &'a mut [Entry],
     size: usize,
     depth: usize,
-    marks: u32,
+    marks: usize,
     used: usize,
-    starts: [usize; 65],
+    starts: [usize; MOST_MARKS],
 }
 
 impl<'a> Trail<'a> {
+    // Opens a store over the cells and the entries, with a row of zeros of at most the size wanted and no row saved.
     pub fn open(cells: &'a mut [Cell], entries: &'a mut [Entry], wanted: usize) -> Trail<'a>
         ensures sound { λ r. ⌜ TrailSound r ⌝ }
         ensures rows { λ r. ⌜ trailRows r ≡ fresh (sizeFor wanted (length (now (cells .entry)))) (trailDepth (length (now (entries .entry))) (sizeFor wanted (length (now (cells .entry))))) ⌝ }
@@ -42,12 +51,8 @@ impl<'a> Trail<'a> {
         ensures entries { λ r. ⌜ r .entries ≡ entries .entry ⌝ }
         ensures lent { λ r. ⌜ name (r .cells) ≡ name (cells .entry) ⌝ }
     {
-        let size = wanted.min(cells.len()).min(256);
-        let depth = if size == 0 {
-            0
-        } else {
-            (entries.len() / size).min(65)
-        };
+        let size = row_size(wanted, cells.len());
+        let depth = whole_rows(entries.len(), size).min(MOST_MARKS);
         fill(cells, size, Cell { value: 0, stamp: 0 });
         Trail {
             cells,
@@ -56,7 +61,7 @@ impl<'a> Trail<'a> {
             depth,
             marks: 0,
             used: 0,
-            starts: [0; 65],
+            starts: [0; MOST_MARKS],
         }
     }
 
@@ -69,7 +74,7 @@ impl<'a> Trail<'a> {
         while left > from {
             left -= 1;
             let entry = self.entries[left];
-            if entry.cell < self.size && entry.cell < self.cells.len() {
+            if entry.cell < self.size.min(self.cells.len()) {
                 self.cells[entry.cell] = Cell {
                     value: entry.value,
                     stamp: entry.stamp,
@@ -93,11 +98,11 @@ pub impl Store for Trail<'_> as TrailStore {
     }
 
     fn marks(&self) -> usize {
-        self.marks as usize
+        self.marks
     }
 
     fn read(&self, cell: usize) -> Result<u64, StoreFault> {
-        if cell >= self.size || cell >= self.cells.len() {
+        if cell >= self.size.min(self.cells.len()) {
             return Err(StoreFault::NoCell(cell));
         }
         Ok(self.cells[cell].value)
@@ -109,7 +114,7 @@ pub impl Store for Trail<'_> as TrailStore {
         ensures past { λ _. ⌜ Past (now (self .entry)) (now (self .exit)) ⌝ }
         ensures lent { λ _. ⌜ name (now (self .exit) .cells) ≡ name (now (self .entry) .cells) ⌝ }
     {
-        if cell >= self.size || cell >= self.cells.len() {
+        if cell >= self.size.min(self.cells.len()) {
             return Err(StoreFault::NoCell(cell));
         }
         let old = self.cells[cell];
@@ -134,12 +139,12 @@ pub impl Store for Trail<'_> as TrailStore {
         ensures past { λ _. ⌜ Past (now (self .entry)) (now (self .exit)) ⌝ }
         ensures lent { λ _. ⌜ name (now (self .exit) .cells) ≡ name (now (self .entry) .cells) ⌝ }
     {
-        let marks = self.marks as usize;
-        if marks >= self.depth || marks >= 65 {
+        let marks = self.marks;
+        if marks >= self.depth.min(MOST_MARKS) {
             return Err(StoreFault::Deep(marks));
         }
         self.starts[marks] = self.used;
-        self.marks += 1;
+        self.marks = marks + 1;
         Ok(())
     }
 
@@ -149,15 +154,15 @@ pub impl Store for Trail<'_> as TrailStore {
         ensures past { λ _. ⌜ Past (now (self .entry)) (now (self .exit)) ⌝ }
         ensures lent { λ _. ⌜ name (now (self .exit) .cells) ≡ name (now (self .entry) .cells) ⌝ }
     {
-        if self.marks == 0 || self.marks > 65 {
+        let marks = self.marks;
+        if marks == 0 || marks > MOST_MARKS {
             return Err(StoreFault::NoMark);
         }
-        let marks = self.marks - 1;
-        let from = self.starts[marks as usize];
+        let from = self.starts[marks - 1];
         let to = self.used.min(self.entries.len());
         self.undo(from, to);
         self.used = from;
-        self.marks = marks;
+        self.marks = marks - 1;
         Ok(())
     }
 }

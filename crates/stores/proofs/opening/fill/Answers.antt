@@ -4,7 +4,7 @@ use Prim.Native.Nat.{ℕ, _+_, _<_}
 use native.Mathlib.Omega.{arith}
 use lib.ListN.{length, drop, set, getD, replicate}
 use Rattle.std.proofs.shelf.Lists.{drop-more, replicate-more, set-at, length-replicate, append-assoc}
-use Rattle.stores.proofs.front.fill.Needs as need
+use Rattle.stores.proofs.opening.fill.Needs as need
 
 fill-more : {X : Type 0} (xs : List X) (i : ℕ) (y : X) → i < length xs → set (replicate i y ++ drop i xs) i y ≡ replicate (i + 1) y ++ drop (i + 1) xs
 fill-more xs i y lt =
