@@ -91,11 +91,13 @@ fn told<T: Drop>(answer: Result<T, StoreFault>) -> Option<Refusal> {
 }
 
 fn perform<S: Store>(store: &mut S, call: Call) -> Option<Refusal> {
-    told(match call {
-        Call::Write(cell, value) => store.write(cell, value),
-        Call::Mark => store.mark(),
-        Call::Restore => store.restore(),
-    })
+    told(
+        match call {
+            Call::Write(cell, value) => store.write(cell, value),
+            Call::Mark => store.mark(),
+            Call::Restore => store.restore(),
+        },
+    )
 }
 
 fn refuses_cell<S: Store>(store: &S, cell: usize) -> bool {
@@ -103,6 +105,17 @@ fn refuses_cell<S: Store>(store: &S, cell: usize) -> bool {
         Some(refusal) => refusal.number == 11 && refusal.place == cell,
         None => false,
     }
+}
+
+// The refusal at which so many marks in a row end, if one of them is refused.
+pub fn marks_end<S: Store>(store: &mut S, times: usize) -> Option<Refusal> {
+    for _ in 0..times {
+        let answer = perform(store, Call::Mark);
+        if answer.is_some() {
+            return answer;
+        }
+    }
+    None
 }
 
 // Whether every question about the store is answered as the judge would.
@@ -125,7 +138,11 @@ pub fn same<S: Store>(store: &S, judge: &Judge) -> bool {
 }
 
 // Runs the script on the store and on the judge, and compares every answer and, after each call, every cell.
-pub fn agree<S: Store>(store: &mut S, judge: &mut Judge, script: &[Call]) -> Result<bool, AllocError> {
+pub fn agree<S: Store>(
+    store: &mut S,
+    judge: &mut Judge,
+    script: &[Call],
+) -> Result<bool, AllocError> {
     for call in script {
         let answer = perform(store, *call);
         if answer != judge.perform(*call)? || !same(store, judge) {

@@ -22,7 +22,9 @@ use stores::trail::TrailStore;
 const OLD: u64 = 9;
 
 fn same_counts(counts: Counts, judge: &Judge) -> bool {
-    counts.writes == judge.writes && counts.marks == judge.marks && counts.restores == judge.restores
+    counts.writes == judge.writes
+        && counts.marks == judge.marks
+        && counts.restores == judge.restores
 }
 
 // Whether the row is at the front of the cells, and the cells past it are as they were.
@@ -130,7 +132,12 @@ pub struct OnTrail {
 }
 
 impl OnTrail {
-    pub fn agrees(&self, heap: Global, layers: Layers, script: &[Call]) -> Result<bool, AllocError> {
+    pub fn agrees(
+        &self,
+        heap: Global,
+        layers: Layers,
+        script: &[Call],
+    ) -> Result<bool, AllocError> {
         let cell = Cell {
             value: OLD,
             stamp: 9,
@@ -159,7 +166,12 @@ pub struct OnCopies {
 }
 
 impl OnCopies {
-    pub fn agrees(&self, heap: Global, layers: Layers, script: &[Call]) -> Result<bool, AllocError> {
+    pub fn agrees(
+        &self,
+        heap: Global,
+        layers: Layers,
+        script: &[Call],
+    ) -> Result<bool, AllocError> {
         let mut words = vec![in heap; OLD; self.words]?;
         let mut judge = Judge::new(heap, self.size, self.depth)?;
         let store = Copying::open(words.as_mut_slice(), self.wanted);

@@ -29,7 +29,12 @@ fn any_call(seed: u64, size: usize) -> Call {
 }
 
 // A long script of any calls; far more marks than restores are in it, so it often stands at its depth.
-pub fn any_calls(heap: Global, seed: u64, size: usize, steps: usize) -> Result<Vec<Call>, AllocError> {
+pub fn any_calls(
+    heap: Global,
+    seed: u64,
+    size: usize,
+    steps: usize,
+) -> Result<Vec<Call>, AllocError> {
     let mut script = Vec::new(heap);
     let mut state = seed;
     for _ in 0..steps {
