@@ -3,6 +3,8 @@ ghost use Prim.Native.Nat.{_≤_};
 ghost use lib.ListN.{length};
 ghost use Rattle.tables.specs.Words.{meaning, Room, Cell, Cell-for, words-bounded};
 
+mod opening;
+
 use crate::table::DomainTable;
 use crate::table::TableFault;
 use crate::table::TableFaultFromStore;
