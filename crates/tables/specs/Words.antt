@@ -30,6 +30,7 @@ digits-are = refl
 abbrev pub domains-of : ℕ → ℕ → List ℕ → Table
 domains-of n w cells = λ x v. (ltb x n && ltb v w) && has (getD cells x 0) v
 
+-- what a store means as a table of n variables
 abbrev pub meaning : ℕ → Rows → TableState
 meaning n r = record { variables = n; width = digits; domains = domains-of n digits (r .row); saved = map (domains-of n digits) (r .saved); depth = r .depth }
 
