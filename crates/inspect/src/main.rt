@@ -1,5 +1,5 @@
-use model::model::calls::Constraint;
 use model::model::Model;
+use model::model::calls::Constraint;
 use model::values::Term;
 use std::io;
 use std::io::Read;

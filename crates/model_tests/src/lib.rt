@@ -1,7 +1,7 @@
 #[cfg(test)]
 mod tests {
-    use model::model::calls::Constraint;
     use model::model::Model;
+    use model::model::calls::Constraint;
     use std::alloc::AllocError;
     use std::alloc::Global;
     use std::test::*;
@@ -116,7 +116,13 @@ mod tests {
     }
 
     // 64 variables, then so many lists of so many variables, and at last one more record.
-    fn expect_lists(heap: Global, times: usize, count: u8, last: &[u8], number: u8) -> Result<(), Fail> {
+    fn expect_lists(
+        heap: Global,
+        times: usize,
+        count: u8,
+        last: &[u8],
+        number: u8,
+    ) -> Result<(), Fail> {
         let mut bytes = most(heap)?;
         push_lists(&mut bytes, times, count)?;
         let place = if number == 0 { 0 } else { bytes.len() };
@@ -144,13 +150,96 @@ mod tests {
         expect_lists(rt.alloc(), 16, 64, &[], 0)?;
         expect_lists(rt.alloc(), 16, 64, &[8, 0, 2, 0, 1, 0, 0, 0, 0, 0, 1, 0], 7)?;
         expect_lists(rt.alloc(), 15, 64, &[3, 0, 3, 0, 2, 0, 1], 0)?;
-        expect_lists(rt.alloc(), 16, 63, &[17, 0, 3, 0, 16, 0, 1, 2, 3, 4, 5, 6, 7, 8, 9, 10, 11, 12, 13, 14, 15], 0)?;
-        expect_lists(rt.alloc(), 16, 63, &[18, 0, 3, 0, 17, 0, 1, 2, 3, 4, 5, 6, 7, 8, 9, 10, 11, 12, 13, 14, 15, 16], 7)
+        expect_lists(
+            rt.alloc(),
+            16,
+            63,
+            &[
+                17,
+                0,
+                3,
+                0,
+                16,
+                0,
+                1,
+                2,
+                3,
+                4,
+                5,
+                6,
+                7,
+                8,
+                9,
+                10,
+                11,
+                12,
+                13,
+                14,
+                15,
+            ],
+            0,
+        )?;
+        expect_lists(
+            rt.alloc(),
+            16,
+            63,
+            &[
+                18,
+                0,
+                3,
+                0,
+                17,
+                0,
+                1,
+                2,
+                3,
+                4,
+                5,
+                6,
+                7,
+                8,
+                9,
+                10,
+                11,
+                12,
+                13,
+                14,
+                15,
+                16,
+            ],
+            7,
+        )
     }
 
     // A sum with the extremes of bound and coefficients, then a list.
     fn extremes(heap: Global) -> Result<Vec<u8>, AllocError> {
-        after_two(heap, &[11, 0, 2, 0, 2, 0, 0, 0, 128, 1, 255, 127, 0, 0, 128, 3, 0, 3, 0, 2, 1, 0])
+        after_two(
+            heap,
+            &[
+                11,
+                0,
+                2,
+                0,
+                2,
+                0,
+                0,
+                0,
+                128,
+                1,
+                255,
+                127,
+                0,
+                0,
+                128,
+                3,
+                0,
+                3,
+                0,
+                2,
+                1,
+                0,
+            ],
+        )
     }
 
     #[test]
