@@ -9,7 +9,7 @@ use lib.Bits.{bitAnd, bitOr, and-step, or-step, and-shr, or-shr, and-mask}
 use lib.Count.{ones, onesIn, ones-step, trailingZeros, under, leadingZeros, leading-top}
 use lib.Pow.{pow-lt, pow-pos}
 use lib.Dec.{eqb, ltb}
-use Rattle.std.proofs.shelf.Tests.{both-ways, cases-bool, cases-eq, cases-lt, cond-false, eq-eqb, ne-eqb, lt-ltb, le-ltb}
+use Rattle.std.proofs.shelf.Tests.{both-ways, cases-eq, cases-lt, eq-eqb, ne-eqb, lt-ltb, le-ltb}
 use Rattle.bits.specs.Bit.{bit, has, counted}
 
 -- ---- digits as numbers
@@ -221,15 +221,3 @@ unfolding counted
 ones-counted zero n h = ap ones (omega arith) ∙ ones-zero
 ones-counted (suc k) n h =
     ones-step n ∙ ap₂ _+_ (bit-has n 0) (ones-counted k (n / 2) (omega (arith, pow-more k))) ∙ sym (counted-first (has n) k)
-
--- where every member is below w, no more places count
-pub counted-within : (d : ℕ → Bool) (w k : ℕ) → w ≤ k → ((v : ℕ) → d v ≡ true → v < w) → counted d k ≡ counted d w
-unfolding counted
-counted-within d w k l f = ap (counted d) (omega arith) ∙ more (k - w)
-  where
-    more : (j : ℕ) → counted d (j + w) ≡ counted d w
-    more zero = ap (counted d) (omega arith)
-    more (suc j) =
-        let out : d (j + w) ≡ false = ⊎-elim (λ h. absurd (let l = f (j + w) h in omega (arith, l))) (λ h. h) (cases-bool (d (j + w))) in
-        let e : suc j + w ≡ suc (j + w) = omega arith in
-        ap (counted d) e ∙ cond-false (d (j + w)) (suc (counted d (j + w))) (counted d (j + w)) out ∙ more j

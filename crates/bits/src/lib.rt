@@ -1,5 +1,5 @@
 ghost use mathlib.Core.Path.{_≡_};
-ghost use mathlib.Core.Bool.{Bool, true, false, not, _&&_, _||_};
+ghost use mathlib.Core.Bool.{true, false, not, _&&_, _||_};
 ghost use Prim.Native.Nat.{ℕ, min, _<_, _≤_};
 ghost use lib.Dec.{eqb, leb, ltb};
 ghost use Rattle.bits.specs.Bit.{has, counted, Empty, Least, Greatest};

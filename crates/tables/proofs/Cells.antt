@@ -1,7 +1,7 @@
 -- What reading and writing a cell does to the domains. Assumes nothing.
 use mathlib.Core.Path.{_≡_, refl, sym, ap, ap₂, _∙_, subst, fun-ext}
 use mathlib.Core.Bool.{Bool, true, false, cond, not, _&&_, _||_}
-use mathlib.Core.List.{List, [], _∷_, map}
+use mathlib.Core.List.{List, []}
 use mathlib.Core.Logic.{⊎-elim}
 use Prim.Native.Nat.{ℕ, zero, suc, _^_, _<_, _≤_}
 use native.Mathlib.Omega.{arith}
@@ -9,20 +9,20 @@ use lib.Dec.{eqb, ltb}
 use lib.ListN.{length, getD, set, length-map}
 use Rattle.std.specs.declared.result.Result.the-variants.{Ok, Err}
 use Rattle.std.proofs.shelf.Lists.{getD-set-same, getD-set-other, length-set}
-use Rattle.std.proofs.shelf.Tests.{both-ways, cases-bool, cases-eq, cases-lt, eq-eqb, ne-eqb, eqb-true, lt-ltb, le-ltb, and-parts, and-from, and-right, not-from-false}
+use Rattle.std.proofs.shelf.Tests.{both-ways, cases-bool, cases-eq, cases-lt, eq-eqb, ne-eqb, eqb-true, lt-ltb, le-ltb, and-from, and-right, not-from-false}
 use Rattle.bits.specs.Bit.{has, counted}
-use Rattle.bits.proofs.Digits.{has-past, member-below}
+use Rattle.bits.proofs.Digits.{has-past}
 use Rattle.stores.specs.Rows as store
 use Rattle.stores.specs.Rows.{Rows, number, place}
 use Rattle.stores.specs.declared.store.StoreFault.{StoreFault}
 use Rattle.stores.specs.declared.store.StoreFault.the-variants.{NoCell, Deep, NoMark}
 use Rattle.tree.specs.Tables.{Table, kept, dropped}
 use Rattle.tree.specs.Domains.{some?, size}
-use Rattle.tree.proofs.Domains.{some?-from, some?-to, implies, no-clash}
+use Rattle.tree.proofs.Domains.{some?-to, implies, no-clash}
 use Rattle.tables.specs.States.{with-domains}
 use Rattle.tables.specs.Calls.{Marks, Restores}
 use Rattle.tables.specs.declared.table.TableFault.the-variants.{Store}
-use Rattle.tables.specs.Words.{digits, digits-are, domains-of, meaning, Room}
+use Rattle.tables.specs.Words.{digits, domains-of, meaning, Room}
 
 -- ---- one cell
 

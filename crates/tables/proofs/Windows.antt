@@ -1,6 +1,6 @@
 -- Restoring the marks of a store one by one, and writing windows into its cells. Assumes nothing.
-use mathlib.Core.Path.{_≡_, refl, sym, ap, ap₂, _∙_, subst, fun-ext}
-use mathlib.Core.Bool.{Bool, true, false, _&&_}
+use mathlib.Core.Path.{_≡_, refl, sym, ap, _∙_, subst, fun-ext}
+use mathlib.Core.Bool.{true, false, _&&_}
 use mathlib.Core.List.{List, [], _∷_, map}
 use mathlib.Core.Logic.{⊎-elim}
 use Prim.Native.Nat.{ℕ, zero, suc, min, _+_, _<_, _≤_}
@@ -9,17 +9,16 @@ use lib.Dec.{leb, ltb}
 use lib.ListN.{length, getD, set, take}
 use Rattle.std.specs.shelf.Maps.{nth}
 use Rattle.std.specs.declared.option.Option.the-variants.{Some, None}
-use Rattle.std.specs.declared.result.Result.the-variants.{Ok, Err}
+use Rattle.std.specs.declared.result.Result.the-variants.{Ok}
 use Rattle.std.proofs.shelf.Lists.{getD-set-same, getD-set-other, length-set}
 use Rattle.std.proofs.shelf.Tests.{cases-eq, cases-lt, leb-true, lt-ltb, le-ltb, and-parts, and-from, and-left, and-right}
 use Rattle.bits.specs.Bit.{has}
 use Rattle.model.specs.Reading.{valid?, windows-fit?, window-fits?}
 use Rattle.model.specs.Values.{Value}
 use Rattle.model.specs.declared.values.Window.{Window}
-use Rattle.stores.specs.Rows.{Rows, Writes, Restores}
-use Rattle.stores.specs.declared.store.StoreFault.{StoreFault}
-use Rattle.tables.specs.Words.{digits, digits-are, domains-of, meaning, Room}
-use Rattle.tables.specs.Opening.{in-window, windowed, opened, lowest, Rewound, Filled, Opened}
+use Rattle.stores.specs.Rows.{Rows, Writes}
+use Rattle.tables.specs.Words.{digits, digits-are, domains-of}
+use Rattle.tables.specs.Opening.{in-window, windowed, lowest, Rewound, Filled, Opened}
 
 -- ---- marks
 
@@ -40,9 +39,6 @@ rewinding-all s t k h l =
     record { row = sym (ap (lowest (t .row)) z) ∙ h .row; long = h .long; saved = z; depth = h .depth }
 
 -- ---- cells
-
-pub filled-none : (ws : List Window) (s : Rows) → Filled ws 0 s s
-filled-none ws s = record { cells = λ x v l. absurd (omega arith); rest = λ x l. refl; long = refl; saved = refl; depth = refl }
 
 pub filled-more : (ws : List Window) (s t u : Rows) (n c : ℕ) → Filled ws n s t → Writes t n c u (Ok tt) → ((v : ℕ) → has c v ≡ windowed ws n v) → Filled ws (n + 1) s u
 filled-more ws s t u n c h w f =
@@ -138,8 +134,8 @@ module _ (ws : List Window) (fit : windows-fit? ws ≡ true) where
       (cases-lt x n)))
 
   -- what rewinding and filling make of a store
-  pub opening : (s r t : Rows) (n : ℕ) → length ws ≤ 64 → n ≡ min (length ws) (length (s .row)) → Rewound s r → Filled ws n r t → Opened ws s n t
-  opening s r t n few e rewound filled = record {
+  pub opening : (s r t : Rows) (n : ℕ) → n ≡ min (length ws) (length (s .row)) → Rewound s r → Filled ws n r t → Opened ws s n t
+  opening s r t n e rewound filled = record {
     means = λ i. record {
       variables = e i;
       width = digits;
@@ -147,7 +143,6 @@ module _ (ws : List Window) (fit : windows-fit? ws ≡ true) where
       saved = ap (map (domains-of n digits)) (filled .saved ∙ rewound .saved) i;
       depth = (filled .depth ∙ rewound .depth) i;
     };
-    room = record { few = omega arith; cells = omega (arith, filled .long, rewound .long) };
     rest = λ x l. filled .rest x l ∙ ap (λ (z : List ℕ). getD z x 0) (rewound .row);
     long = filled .long ∙ rewound .long;
   }

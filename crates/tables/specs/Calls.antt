@@ -12,7 +12,7 @@ use Rattle.std.specs.declared.option.Option.{Option}
 use Rattle.bits.specs.Bit.{Least, Greatest}
 use Rattle.stores.specs.Rows.{number as store-number, place as store-place}
 use Rattle.stores.specs.declared.store.StoreFault.the-variants.{Deep, NoMark}
-use Rattle.tree.specs.Tables.{Table, kept, dropped}
+use Rattle.tree.specs.Tables.{kept, dropped}
 use Rattle.tree.specs.Domains.{some?, size}
 use Rattle.tables.specs.States.{TableState, with-domains, with-saved}
 use Rattle.tables.specs.declared.table.TableFault.{TableFault}

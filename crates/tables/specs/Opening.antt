@@ -9,7 +9,7 @@ use Rattle.bits.specs.Bit.{has}
 use Rattle.model.specs.declared.values.Window.{Window}
 use Rattle.stores.specs.Rows.{Rows}
 use Rattle.tables.specs.States.{TableState}
-use Rattle.tables.specs.Words.{digits, domains-of, meaning, Room}
+use Rattle.tables.specs.Words.{digits, meaning}
 
 -- v is in the window
 abbrev pub in-window : Window → ℕ → Bool
@@ -50,7 +50,6 @@ pub record Filled (ws : List Window) (n : ℕ) (s t : Rows) : Type 0 where
 -- a table of n variables, opened over a store that meant s and means t now
 pub record Opened (ws : List Window) (s : Rows) (n : ℕ) (t : Rows) : Type 0 where
   pub means : meaning n t ≡ opened ws s
-  pub room : Room n t
   -- cells past the variables are as every mark restored left them
   pub rest : (x : ℕ) → n ≤ x → getD (t .row) x 0 ≡ getD (lowest (s .row) (s .saved)) x 0
   pub long : length (t .row) ≡ length (s .row)

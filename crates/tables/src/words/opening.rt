@@ -3,6 +3,7 @@ ghost use lib.ListN.{length};
 ghost use Rattle.model.specs.Meaning.{windows};
 ghost use Rattle.stores.specs.Rows.{Keeps};
 ghost use Rattle.tables.specs.Opening.{Rewound, Filled, Opened};
+ghost use Rattle.tables.specs.Words.{Room};
 use crate::words::WordTable;
 use bits::Set;
 use model::model::Model;
@@ -39,7 +40,8 @@ impl<S: Store> WordTable<S> {
     // Opens a table of a domain for each variable of the model, as far as the store has cells: its window.
     // Every mark of the store is restored first, and cells past the variables are left alone.
     pub fn open(model: &Model, store: S) -> WordTable<S>
-        ensures { λ r. ⌜ (S·Store .sound store → Opened (windows (now (model .entry))) (S·Store .rows store) (r .variables) (S·Store .rows (r .store)) × S·Store .sound (r .store)) ⌝ }
+        ensures sound { λ r. ⌜ (S·Store .sound store → S·Store .sound (r .store) × Room (r .variables) (S·Store .rows (r .store))) ⌝ }
+        ensures opens { λ r. ⌜ (S·Store .sound store → Opened (windows (now (model .entry))) (S·Store .rows store) (r .variables) (S·Store .rows (r .store))) ⌝ }
     {
         let mut store = store;
         rewind(&mut store);

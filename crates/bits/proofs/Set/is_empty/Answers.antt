@@ -1,4 +1,4 @@
-use mathlib.Core.Path.{_≡_, ap, _∙_}
+use mathlib.Core.Path.{ap, _∙_}
 use Rattle.std.proofs.shelf.Tests.{eqb-true, eqb-false}
 use Rattle.bits.specs.Bit.{has}
 use Rattle.bits.proofs.Digits.{has-zero, some-member}

@@ -1,9 +1,9 @@
 use mathlib.Core.Path.{_≡_, subst, sym, ap, _∙_}
-use Prim.Native.Nat.{ℕ, _<_, _^_}
+use Prim.Native.Nat.{_<_, _^_}
 use borrow.Author.Needs.{needs}
 use Rattle.bits.specs.Bit.{has}
 use Rattle.bits.specs.declared.Set.{Set}
-use Rattle.tables.specs.Words.{digits, digits-are, domains-of}
+use Rattle.tables.specs.Words.{digits, digits-are}
 use Rattle.tables.proofs.Cells.{cell-is-domain}
 use Rattle.tables.proofs.words.WordTable.cell.Needs as need
 

@@ -1,9 +1,9 @@
-use mathlib.Core.Path.{_≡_, refl, sym, ap, ap₂, subst, _∙_}
+use mathlib.Core.Path.{_≡_, refl, sym, ap, ap₂, _∙_}
 use mathlib.Core.Bool.{true, not, _&&_}
 use Prim.Native.Nat.{ℕ, _<_}
 use lib.Dec.{eqb}
 use lib.ListN.{getD}
-use Rattle.std.proofs.shelf.Tests.{and-parts, ltb-true}
+use Rattle.std.proofs.shelf.Tests.{and-parts}
 use Rattle.bits.specs.Bit.{has}
 use Rattle.tree.specs.Tables.{kept}
 use Rattle.tree.proofs.Domains.{some?-from}

@@ -1,5 +1,4 @@
-use mathlib.Core.Path.{refl, ap}
-use mathlib.Core.Path.{subst, sym}
+use mathlib.Core.Path.{ap, subst, sym}
 use lib.ListN.{length}
 use Prim.Native.Nat.{_≤_}
 use Rattle.std.proofs.shelf.Results.{err-from-errBy}

@@ -1,4 +1,4 @@
-use mathlib.Core.Path.{_∙_, ap, ap₂, sym}
+use mathlib.Core.Path.{_∙_, ap₂, sym}
 use Rattle.bits.specs.Bit.{has}
 use Rattle.tree.specs.Domains.{size}
 use Rattle.tables.specs.Words.{digits-are}
