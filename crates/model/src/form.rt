@@ -7,7 +7,7 @@ use crate::kind::Different;
 use crate::kind::Windows;
 
 #[derive(Clone, Copy)]
-pub enum RecordKind {
+pub(crate) enum RecordKind {
     Windows,
     AtMost,
     Different,
@@ -15,7 +15,7 @@ pub enum RecordKind {
 
 // How the body of a record is laid out: the least count, the bytes before the entries, and the bytes of each entry.
 #[derive(Clone, Copy)]
-pub struct Shape {
+pub(crate) struct Shape {
     pub least: u8,
     pub before: usize,
     pub each: usize,
@@ -23,7 +23,7 @@ pub struct Shape {
 
 impl RecordKind {
     // The kind with this number.
-    pub fn of(number: u16) -> Option<RecordKind>
+    pub(crate) fn of(number: u16) -> Option<RecordKind>
         ensures { λ r. ⌜ r ≡ kindOf number ⌝ }
     {
         match number {
@@ -34,7 +34,7 @@ impl RecordKind {
         }
     }
 
-    pub fn shape(self) -> Shape
+    pub(crate) fn shape(self) -> Shape
         ensures { λ r. ⌜ r ≡ shape self ⌝ }
     {
         match self {
@@ -57,7 +57,7 @@ impl RecordKind {
     }
 
     // How long a body is with so many entries.
-    pub fn length(self, count: u8) -> usize
+    pub(crate) fn length(self, count: u8) -> usize
         ensures { λ r. ⌜ r ≡ shape self .before + shape self .each * count ⌝ }
     {
         let count = count as usize;
@@ -69,7 +69,7 @@ impl RecordKind {
     }
 
     // Whether a record of this kind may not stand here: windows come first, and nowhere else.
-    pub fn misplaced(self, first: bool) -> bool
+    pub(crate) fn misplaced(self, first: bool) -> bool
         ensures { λ r. ⌜ r ≡ misplaced? first self ⌝ }
     {
         match self {

@@ -25,7 +25,7 @@ use crate::values::Window;
 use bits::Set;
 
 // No variable and no record yet.
-pub fn empty() -> Draft
+pub(crate) fn empty() -> Draft
     ensures { λ r. ⌜ r ≡ blank ⌝ }
 {
     Draft {
@@ -127,7 +127,7 @@ fn read_constraint(draft: &mut Draft, bytes: &[u8], at: usize) -> Result<usize, 
 }
 
 // What the bytes hold, or the first fault.
-pub fn draft_of(bytes: &[u8]) -> Result<Draft, ModelFault>
+pub(crate) fn draft_of(bytes: &[u8]) -> Result<Draft, ModelFault>
     ensures { λ r. ⌜ Reads-bytes (now (bytes .entry)) r ⌝ }
 {
     let mut draft = empty();
