@@ -4,7 +4,7 @@ use bits::Set;
 
 // Where the entries of a constraint record lie: `count` of them from `from` on.
 #[derive(Clone, Copy)]
-pub enum Stored {
+pub(crate) enum Stored {
     AtMost {
         bound: i32,
         from: usize,
@@ -19,7 +19,7 @@ pub enum Stored {
 // A model while it is read: the first `variables` windows, the first `records` records, and for each variable
 // the set of records that name it.
 #[derive(Clone, Copy)]
-pub struct Draft {
+pub(crate) struct Draft {
     pub variables: usize,
     pub windows: [Window; 64],
     pub records: usize,

@@ -14,7 +14,7 @@ use crate::values::Window;
 use bits::Set;
 
 // What a record lists: so many bytes each.
-pub trait Entry: Copy {
+pub(crate) trait Entry: Copy {
     ghost read: { List ℕ → Self };
 
     ghost each: { ℕ };
@@ -78,7 +78,7 @@ pub impl Entry for u8 as ListedEntry {
 }
 
 // Reads `count` entries from `at` on into the places from `from` on.
-pub fn fill<E: Entry>(entries: &mut [E], from: usize, bytes: &[u8], at: usize, count: usize)
+pub(crate) fn fill<E: Entry>(entries: &mut [E], from: usize, bytes: &[u8], at: usize, count: usize)
     requires { ⌜ from + count ≤ length (now entries) ⌝ ∗ ⌜ at + E·Entry .each * count ≤ length (now bytes) ⌝ }
     ensures { λ _. ⌜ now (entries .exit) ≡ take from (now (entries .entry)) ++ (entries-in (E·Entry .read) (E·Entry .each) count (drop at (now (bytes .entry))) ++ drop (from + count) (now (entries .entry))) ⌝ }
 {
@@ -89,7 +89,7 @@ pub fn fill<E: Entry>(entries: &mut [E], from: usize, bytes: &[u8], at: usize, c
 }
 
 // Adds the record to the sets of the variables that its entries name.
-pub fn note_names(
+pub(crate) fn note_names(
     naming: &mut [Set],
     record: usize,
     bytes: &[u8],

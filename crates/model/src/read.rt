@@ -2,7 +2,7 @@ ghost use mathlib.Core.Path.{_≡_};
 ghost use mathlib.Core.Bool.{true, false};
 ghost use Prim.Native.Nat.{ℕ, _≤_, _<_};
 ghost use lib.ListN.{length, getD, drop};
-ghost use Rattle.model.specs.declared.kind.RecordKind.the-variants.{AtMost as Sum, Different as Apart};
+ghost use Rattle.model.specs.declared.form.RecordKind.the-variants.{AtMost as Sum, Different as Apart};
 ghost use Rattle.model.specs.Drafts.{Tidy, drafted, blank};
 ghost use Rattle.model.specs.Reading.{extended, misplaced?, nothing};
 ghost use Rattle.model.specs.Scans.{Ready, Reads-record, Reads-bytes};
@@ -14,7 +14,7 @@ use crate::fill::TermEntry;
 use crate::fill::WindowEntry;
 use crate::fill::fill;
 use crate::fill::note_names;
-use crate::kind::RecordKind;
+use crate::form::RecordKind;
 use crate::scan::long_at;
 use crate::scan::named_once;
 use crate::scan::record_at;
@@ -25,7 +25,7 @@ use crate::values::Window;
 use bits::Set;
 
 // No variable and no record yet.
-pub fn empty() -> Draft
+pub(crate) fn empty() -> Draft
     ensures { λ r. ⌜ r ≡ blank ⌝ }
 {
     Draft {
@@ -127,7 +127,7 @@ fn read_constraint(draft: &mut Draft, bytes: &[u8], at: usize) -> Result<usize, 
 }
 
 // What the bytes hold, or the first fault.
-pub fn draft_of(bytes: &[u8]) -> Result<Draft, ModelFault>
+pub(crate) fn draft_of(bytes: &[u8]) -> Result<Draft, ModelFault>
     ensures { λ r. ⌜ Reads-bytes (now (bytes .entry)) r ⌝ }
 {
     let mut draft = empty();

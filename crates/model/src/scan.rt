@@ -6,12 +6,12 @@ ghost use Rattle.model.specs.Kinds.{shape};
 ghost use Rattle.model.specs.Reading.{word, long, windows-in, variables-in, windows-fit?, named-once?, misplaced?, misfit?, extent};
 ghost use Rattle.model.specs.Scans.{Opens};
 use crate::fault::ModelFault;
-use crate::kind::RecordKind;
+use crate::form::RecordKind;
 use crate::values::Window;
 use bits::Set;
 
 // The number in the two bytes from `at` on, the lower first.
-pub fn word_at(bytes: &[u8], at: usize) -> u16
+pub(crate) fn word_at(bytes: &[u8], at: usize) -> u16
     requires { ⌜ at + 2 ≤ length (now bytes) ⌝ }
     ensures { λ r. ⌜ r ≡ word (drop at (now (bytes .entry))) 0 ⌝ }
 {
@@ -19,7 +19,7 @@ pub fn word_at(bytes: &[u8], at: usize) -> u16
 }
 
 // The number in the four bytes from `at` on, the lowest first.
-pub fn long_at(bytes: &[u8], at: usize) -> u32
+pub(crate) fn long_at(bytes: &[u8], at: usize) -> u32
     requires { ⌜ at + 4 ≤ length (now bytes) ⌝ }
     ensures { λ r. ⌜ r ≡ long (drop at (now (bytes .entry))) 0 ⌝ }
 {
@@ -27,7 +27,7 @@ pub fn long_at(bytes: &[u8], at: usize) -> u32
 }
 
 // Whether each of `count` windows holds a value, and none above 63.
-pub fn windows_fit(bytes: &[u8], at: usize, count: usize) -> bool
+pub(crate) fn windows_fit(bytes: &[u8], at: usize, count: usize) -> bool
     requires { ⌜ at + 2 * count ≤ length (now bytes) ⌝ }
     ensures { λ r. ⌜ r ≡ windows-fit? (windows-in count (drop at (now (bytes .entry)))) ⌝ }
 {
@@ -42,7 +42,13 @@ pub fn windows_fit(bytes: &[u8], at: usize, count: usize) -> bool
 }
 
 // Whether the first bytes of `count` entries, `each` bytes apart, are variables that are there, and none twice.
-pub fn named_once(bytes: &[u8], at: usize, each: usize, count: usize, variables: usize) -> bool
+pub(crate) fn named_once(
+    bytes: &[u8],
+    at: usize,
+    each: usize,
+    count: usize,
+    variables: usize,
+) -> bool
     requires { ⌜ at + each * count ≤ length (now bytes) ⌝ ∗ ⌜ 1 ≤ each ⌝ ∗ ⌜ variables ≤ 64 ⌝ }
     ensures { λ r. ⌜ r ≡ named-once? variables (variables-in each count (drop at (now (bytes .entry)))) ⌝ }
 {
@@ -73,7 +79,7 @@ fn misfits(bytes: &[u8], at: usize, kind: RecordKind, length: usize) -> bool
 }
 
 // The kind of the record at `at`, which is there as a whole, and whose count fits its length.
-pub fn record_at(bytes: &[u8], at: usize, first: bool) -> Result<RecordKind, ModelFault>
+pub(crate) fn record_at(bytes: &[u8], at: usize, first: bool) -> Result<RecordKind, ModelFault>
     requires { ⌜ at ≤ length (now bytes) ⌝ }
     ensures opens { λ r. ⌜ Opens first at (drop at (now (bytes .entry))) r ⌝ }
     ensures bytes { λ r. ⌜ ((i : ℕ) → getD (now (bytes .entry)) i 0 < 256) ⌝ }
