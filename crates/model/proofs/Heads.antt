@@ -10,7 +10,7 @@ use Rattle.std.proofs.shelf.Lists.{getD-drop, length-drop}
 use Rattle.std.proofs.shelf.Tests.{cond-true, cond-false, lt-ltb, le-ltb, le-leb, lt-leb, ne-eqb, and-from, and-left, and-right, not-from-false, not-from-true}
 use Rattle.std.specs.declared.option.Option.{Option}
 use Rattle.std.specs.declared.option.Option.the-variants.{Some, None}
-use Rattle.model.specs.declared.kind.RecordKind.{RecordKind}
+use Rattle.model.specs.declared.form.RecordKind.{RecordKind}
 use Rattle.model.specs.Kinds.{kindOf, shape}
 use Rattle.model.specs.Values.{Value}
 use Rattle.model.specs.Reading.{word, long, count, body-length, extent, misplaced?, misfit?, rows, first-broken, broken, by-rows, by-kind, step}

@@ -16,8 +16,8 @@ use Rattle.std.proofs.shelf.Signed.{toZ-ofZ, ofZ-toZ}
 use Rattle.std.proofs.shelf.Tests.{and-parts, and-from, or-parts, or-from, not-false, not-from-true, ltb-false, le-ltb, leb-true, leb-false, le-leb, lt-leb, eqb-true, eq-eqb, true≢false}
 use Rattle.std.specs.Joined.{joined}
 use Rattle.std.specs.shelf.Lists.{All}
-use Rattle.model.specs.declared.kind.RecordKind.{RecordKind}
-use Rattle.model.specs.declared.kind.RecordKind.the-variants.{Windows, AtMost, Different}
+use Rattle.model.specs.declared.form.RecordKind.{RecordKind}
+use Rattle.model.specs.declared.form.RecordKind.the-variants.{Windows, AtMost, Different}
 use Rattle.model.specs.declared.values.Window.{Window}
 use Rattle.model.specs.declared.values.Term.{Term}
 use Rattle.model.specs.Values.{Value, Record, at-most, different, names, entries, Distinct, Record-valid, Valid}

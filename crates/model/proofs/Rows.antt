@@ -11,8 +11,8 @@ use Rattle.std.proofs.shelf.Tests.{ltb-false, le-ltb, eqb-true, cond-false, cas
 use Rattle.std.specs.declared.option.Option.{Option}
 use Rattle.std.specs.declared.option.Option.the-variants.{Some, None}
 use Rattle.std.specs.shelf.Lists.{All}
-use Rattle.model.specs.declared.kind.RecordKind.{RecordKind}
-use Rattle.model.specs.declared.kind.RecordKind.the-variants.{Windows, AtMost, Different}
+use Rattle.model.specs.declared.form.RecordKind.{RecordKind}
+use Rattle.model.specs.declared.form.RecordKind.the-variants.{Windows, AtMost, Different}
 use Rattle.model.specs.Kinds.{kindOf}
 use Rattle.model.specs.Values.{Value}
 use Rattle.model.specs.Reading.{word, rows, first-broken, extended, Step, broken, more, by-rows, by-kind, step}

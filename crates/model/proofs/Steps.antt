@@ -9,8 +9,8 @@ use lib.Dec.{ltb, leb}
 use lib.ListN.{length}
 use Rattle.std.proofs.shelf.Tests.{cond-true, cond-false, le-ltb, lt-ltb, le-leb, lt-leb, or-left, or-right, or-from, not-from-false, not-from-true, true≢false}
 use Rattle.std.specs.declared.option.Option.the-variants.{Some, None}
-use Rattle.model.specs.declared.kind.RecordKind.{RecordKind}
-use Rattle.model.specs.declared.kind.RecordKind.the-variants.{Windows, AtMost, Different}
+use Rattle.model.specs.declared.form.RecordKind.{RecordKind}
+use Rattle.model.specs.declared.form.RecordKind.the-variants.{Windows, AtMost, Different}
 use Rattle.model.specs.Kinds.{shape}
 use Rattle.model.specs.Values.{Value, entries}
 use Rattle.model.specs.Reading.{count, extent, entry-bytes, windows-in, variables-in, windows-fit?, named-once?, misplaced?, misfit?, crowded?, bad-window?, bad-variable?, rows, first-broken, extended, broken, more, by-rows, step}

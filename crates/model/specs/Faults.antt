@@ -1,5 +1,7 @@
 -- The published number of each fault, and its place. Assumes nothing.
+use mathlib.Core.List.{List}
 use Prim.Native.Nat.{ℕ}
+use lib.Chars.{codes}
 use Rattle.model.specs.declared.fault.ModelFault.{ModelFault}
 use Rattle.model.specs.declared.fault.ModelFault.the-variants.{Short, Unknown, Misplaced, Misfit, Window, Variable, Crowded}
 
@@ -20,3 +22,13 @@ place (Misfit at) = at
 place (Window at) = at
 place (Variable at) = at
 place (Crowded at) = at
+
+-- The reason in words, as it is printed.
+abbrev pub reason : ModelFault → List ℕ
+reason (Short at) = codes "fewer bytes are left than the record has"
+reason (Unknown at) = codes "the kind is not known"
+reason (Misplaced at) = codes "the windows come first, and once"
+reason (Misfit at) = codes "the count is beyond its limits or does not fit the length"
+reason (Window at) = codes "a window is empty or reaches past 64"
+reason (Variable at) = codes "a variable is not there or comes twice"
+reason (Crowded at) = codes "there are too many records or entries"

@@ -4,9 +4,9 @@ use Prim.Native.Nat.{ℕ}
 use lib.Dec.{eqb}
 use Rattle.std.specs.declared.option.Option.{Option}
 use Rattle.std.specs.declared.option.Option.the-variants.{Some, None}
-use Rattle.model.specs.declared.kind.RecordKind.{RecordKind}
-use Rattle.model.specs.declared.kind.RecordKind.the-variants.{Windows, AtMost, Different}
-use Rattle.model.specs.declared.kind.Shape.{Shape}
+use Rattle.model.specs.declared.form.RecordKind.{RecordKind}
+use Rattle.model.specs.declared.form.RecordKind.the-variants.{Windows, AtMost, Different}
+use Rattle.model.specs.declared.form.Shape.{Shape}
 
 abbrev pub kindOf : ℕ → Option RecordKind
 kindOf k = cond (eqb k 1) (Some Windows) (cond (eqb k 2) (Some AtMost) (cond (eqb k 3) (Some Different) None))

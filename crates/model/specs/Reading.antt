@@ -9,8 +9,8 @@ use mir.Syntax.{w16, w32}
 use mir.Val.{toZ}
 use Rattle.std.specs.declared.option.Option.{Option}
 use Rattle.std.specs.declared.option.Option.the-variants.{Some, None}
-use Rattle.model.specs.declared.kind.RecordKind.{RecordKind}
-use Rattle.model.specs.declared.kind.RecordKind.the-variants.{Windows, AtMost, Different}
+use Rattle.model.specs.declared.form.RecordKind.{RecordKind}
+use Rattle.model.specs.declared.form.RecordKind.the-variants.{Windows, AtMost, Different}
 use Rattle.model.specs.declared.values.Window.{Window}
 use Rattle.model.specs.declared.values.Term.{Term}
 use Rattle.model.specs.Kinds.{kindOf, shape}

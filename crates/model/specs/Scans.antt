@@ -10,7 +10,7 @@ use Rattle.std.specs.declared.result.Result.the-variants.{Ok, Err}
 use Rattle.std.specs.declared.option.Option.{Option}
 use Rattle.std.specs.declared.option.Option.the-variants.{Some, None}
 use Rattle.model.specs.declared.fault.ModelFault.{ModelFault}
-use Rattle.model.specs.declared.kind.RecordKind.{RecordKind}
+use Rattle.model.specs.declared.form.RecordKind.{RecordKind}
 use Rattle.model.specs.Faults.{number, place}
 use Rattle.model.specs.Kinds.{kindOf, shape}
 use Rattle.model.specs.Values.{Value}

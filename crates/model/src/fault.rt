@@ -1,5 +1,5 @@
 ghost use mathlib.Core.Path.{_≡_};
-ghost use Rattle.model.specs.Faults.{number, place};
+ghost use Rattle.model.specs.Faults.{number, place, reason};
 
 // Why model bytes are refused. Each holds the offset of the record that is at fault.
 #[derive(Clone, Copy, PartialEq, Eq, Debug)]
@@ -48,6 +48,21 @@ impl ModelFault {
             ModelFault::Window(at) => *at,
             ModelFault::Variable(at) => *at,
             ModelFault::Crowded(at) => *at,
+        }
+    }
+
+    // The reason in words.
+    pub fn reason(&self) -> &'static str
+        ensures { λ r. ⌜ now r ≡ reason (now (self .entry)) ⌝ }
+    {
+        match self {
+            ModelFault::Short(_) => "fewer bytes are left than the record has",
+            ModelFault::Unknown(_) => "the kind is not known",
+            ModelFault::Misplaced(_) => "the windows come first, and once",
+            ModelFault::Misfit(_) => "the count is beyond its limits or does not fit the length",
+            ModelFault::Window(_) => "a window is empty or reaches past 64",
+            ModelFault::Variable(_) => "a variable is not there or comes twice",
+            ModelFault::Crowded(_) => "there are too many records or entries",
         }
     }
 }

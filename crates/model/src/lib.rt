@@ -1,6 +1,7 @@
 mod draft;
 pub mod fault;
 mod fill;
+mod form;
 pub mod kind;
 pub mod model;
 mod read;

@@ -6,7 +6,7 @@ ghost use Rattle.model.specs.Kinds.{shape};
 ghost use Rattle.model.specs.Reading.{word, long, windows-in, variables-in, windows-fit?, named-once?, misplaced?, misfit?, extent};
 ghost use Rattle.model.specs.Scans.{Opens};
 use crate::fault::ModelFault;
-use crate::kind::RecordKind;
+use crate::form::RecordKind;
 use crate::values::Window;
 use bits::Set;
 

@@ -17,6 +17,7 @@ use crate::values::Window;
 use bits::Set;
 
 // One constraint record, its entries lent from the model.
+#[derive(Clone, Copy)]
 pub enum Constraint<'a> {
     AtMost { bound: i32, terms: &'a [Term] },
     Different { variables: &'a [u8] },

@@ -7,8 +7,8 @@ use native.Mathlib.Omega.{arith}
 use lib.ListN.{length, getD, drop}
 use Rattle.std.proofs.shelf.Lists.{getD-drop, length-drop, drop-drop}
 use Rattle.model.specs.declared.draft.Draft.{Draft}
-use Rattle.model.specs.declared.kind.RecordKind.{RecordKind}
-use Rattle.model.specs.declared.kind.Shape.{Shape}
+use Rattle.model.specs.declared.form.RecordKind.{RecordKind}
+use Rattle.model.specs.declared.form.Shape.{Shape}
 use Rattle.model.specs.Kinds.{shape}
 use Rattle.model.specs.Values.{entries}
 use Rattle.model.specs.Reading.{count, entry-bytes, variables-in, named-once?, more}

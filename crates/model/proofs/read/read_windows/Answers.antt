@@ -5,7 +5,7 @@ use Prim.Native.Nat.{ℕ, _+_, _*_, _≤_, _<_}
 use native.Mathlib.Omega.{arith}
 use lib.ListN.{length, getD, take, drop}
 use Rattle.std.proofs.shelf.Lists.{take-at}
-use Rattle.model.specs.declared.kind.RecordKind.the-variants.{Windows}
+use Rattle.model.specs.declared.form.RecordKind.the-variants.{Windows}
 use Rattle.model.specs.Reading.{more, window-at, windows-in}
 use Rattle.model.specs.Drafts.{Tidy, drafted}
 use Rattle.model.specs.Scans.{Whole}
