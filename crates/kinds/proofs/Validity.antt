@@ -109,3 +109,11 @@ together-lawful A laws = record {
 
 pub problem-lawful : Problem-is-lawful
 problem-lawful D m w laws v = together-lawful (asks D m w) (model-laws D m w laws v)
+
+-- what a record's demand names is one of the model's variables
+pub demanded-below : (D : Demands) (m : Value) (w i x : ℕ) → Lawful-kinds D → valid? m ≡ true → demanded D w (nth (m .records) i) .names x ≡ true → x < length (m .windows)
+demanded-below D m w i x laws v h = by (nth (m .records) i) refl h
+  where
+    by : (o : Option Record) → nth (m .records) i ≡ o → demanded D w o .names x ≡ true → x < length (m .windows)
+    by None e k = absurd (both-ways false refl k)
+    by (Some q) e k = named m v i q e .below x (laws .names w q x k)
