@@ -44,14 +44,6 @@ takes-fewer P T p cs x v s ch =
     let l = singles-open P T x (stands-settled P (table T) p cs s .bounded) (ch .is-open) in
     omega arith
 
--- as long as the pile is high
-pub stands-length : (P : Problem) (N : Node) (p : List Node) (cs : List (ℕ × ℕ)) → Stands P N p cs → length p ≡ length cs
-stands-length P N [] [] s = refl
-stands-length P N [] (c ∷ cs) s = absurd s
-stands-length P N (M ∷ p) [] s = absurd s
-stands-length P N (failed ∷ p) (c ∷ cs) s = absurd s
-stands-length P N (table T ∷ p) (c ∷ cs) s = let h = stands-length P (table T) p cs (s .3) in omega arith
-
 stands-lower : (P : Problem) (N : Node) (T : Table) (p : List Node) (cs : List (ℕ × ℕ)) → Settles P N → Below N T → Stands P (table T) p cs → Stands P N p cs
 stands-lower P N T [] [] n b s = n
 stands-lower P N T [] (c ∷ cs) n b s = absurd s
