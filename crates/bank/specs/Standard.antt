@@ -2,7 +2,7 @@
 use mathlib.Core.Path.{_≡_}
 use Prim.Native.Nat.{ℕ}
 use Rattle.model.specs.Values.{Record, at-most, different}
-use Rattle.kinds.specs.Demands.{Demand, Demands, demand-of, with-kind, no-demands}
+use Rattle.kinds.specs.Demands.{Demands, demand-of, with-kind, no-demands}
 use Rattle.atmost.specs.Linear.{stable as stable-sum, meets as meets-sum}
 use Rattle.different.specs.Different.{stable as stable-different, meets as meets-different}
 

@@ -1,4 +1,3 @@
-ghost use mathlib.Core.Path.{_≡_};
 ghost use lib.ListN.{length};
 ghost use Rattle.std.specs.shelf.Maps.{nth};
 ghost use Rattle.stores.specs.Rows.{Keeps};
@@ -25,7 +24,10 @@ pub fn standard() -> Bank<SumAtMost, Bank<AllDifferent, NoKinds>>
 {
     Bank {
         kind: SumAtMost,
-        rest: Bank { kind: AllDifferent, rest: NoKinds },
+        rest: Bank {
+            kind: AllDifferent,
+            rest: NoKinds,
+        },
     }
 }
 

@@ -40,9 +40,15 @@ fn supported(pairs: &[Pair], rule: &Rule, pair: Pair) -> bool {
             for term in terms.iter() {
                 if term.variable == pair.variable {
                     listed = true;
-                    sum = sum.saturating_add(i64::from(term.coefficient).saturating_mul(i64::from(pair.value)));
+                    sum = sum.saturating_add(i64::from(term.coefficient).saturating_mul(i64::from(
+                        pair.value,
+                    )));
                 } else {
-                    sum = sum.saturating_add(lowest(pairs, term.variable, i64::from(term.coefficient)));
+                    sum = sum.saturating_add(lowest(
+                        pairs,
+                        term.variable,
+                        i64::from(term.coefficient),
+                    ));
                 }
             }
             !listed || sum <= i64::from(*bound)
@@ -90,7 +96,12 @@ fn all_filled(pairs: &[Pair], variables: u8) -> bool {
 }
 
 // The filtered table, or none where the table has failed.
-pub fn fixpoint(heap: Global, pairs: &[Pair], rules: &[Rule], variables: u8) -> Result<Option<Vec<Pair>>, AllocError> {
+pub fn fixpoint(
+    heap: Global,
+    pairs: &[Pair],
+    rules: &[Rule],
+    variables: u8,
+) -> Result<Option<Vec<Pair>>, AllocError> {
     let mut left = pairs.to_vec(heap)?;
     for _ in 0..pairs.len().saturating_add(1) {
         if !all_filled(&left, variables) {

@@ -42,7 +42,12 @@ fn window_by(chance: &mut Chance) -> Window {
 }
 
 // Some of the variables, none twice; at least the first.
-fn some_variables(heap: Global, chance: &mut Chance, variables: u8, fewest: usize) -> Result<Vec<u8>, AllocError> {
+fn some_variables(
+    heap: Global,
+    chance: &mut Chance,
+    variables: u8,
+    fewest: usize,
+) -> Result<Vec<u8>, AllocError> {
     let mut chosen = Vec::new(heap);
     for x in 0..variables {
         if chosen.len() < fewest || chance.below(2) == 1 {
@@ -60,7 +65,10 @@ fn rule_by(heap: Global, chance: &mut Chance, variables: u8) -> Result<Rule, All
     let mut terms = Vec::new(heap);
     for x in some_variables(heap, chance, variables, 1)?.iter() {
         let coefficient = i16::from(chance.below(9)) - 4;
-        terms.push(Term { variable: *x, coefficient })?;
+        terms.push(Term {
+            variable: *x,
+            coefficient,
+        })?;
     }
     let bound = i32::from(chance.below(60)) - 30;
     Ok(Rule::AtMost { bound, terms })
@@ -94,7 +102,11 @@ fn push_head(bytes: &mut Vec<u8>, length: usize, kind: u16) -> Result<(), AllocE
 // The model bytes of the sample.
 pub fn bytes_of(heap: Global, windows: &[Window], rules: &[Rule]) -> Result<Vec<u8>, AllocError> {
     let mut bytes = Vec::new(heap);
-    push_head(&mut bytes, windows.len().saturating_mul(2).saturating_add(1), 1)?;
+    push_head(
+        &mut bytes,
+        windows.len().saturating_mul(2).saturating_add(1),
+        1,
+    )?;
     bytes.push((windows.len() % 256) as u8)?;
     for window in windows {
         bytes.push(window.low)?;
@@ -103,7 +115,11 @@ pub fn bytes_of(heap: Global, windows: &[Window], rules: &[Rule]) -> Result<Vec<
     for rule in rules {
         match rule {
             Rule::AtMost { bound, terms } => {
-                push_head(&mut bytes, terms.len().saturating_mul(3).saturating_add(5), 2)?;
+                push_head(
+                    &mut bytes,
+                    terms.len().saturating_mul(3).saturating_add(5),
+                    2,
+                )?;
                 bytes.push((terms.len() % 256) as u8)?;
                 for byte in bound.to_le_bytes() {
                     bytes.push(byte)?;

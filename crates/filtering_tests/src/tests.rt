@@ -4,11 +4,11 @@ use crate::sample::Chance;
 use crate::sample::Rule;
 use crate::sample::bytes_of;
 use crate::sample::sample_by;
+use atmost::kind::SumAtMostKind;
 use bank::bank::BankKinds;
 use bank::bank::NoKindsKinds;
-use atmost::kind::SumAtMostKind;
-use different::kind::AllDifferentKind;
 use bank::standard::standard;
+use different::kind::AllDifferentKind;
 use filtering::filter::Start;
 use filtering::filter::filter;
 use filtering::list::WaitingList;
@@ -27,7 +27,11 @@ use tables::table::TableFaultDebug;
 use tables::words::WordTable;
 use tables::words::WordTableDomains;
 
-fn pairs_of<T: DomainTable>(heap: Global, table: &T, variables: u8) -> Result<Vec<Pair>, AllocError> {
+fn pairs_of<T: DomainTable>(
+    heap: Global,
+    table: &T,
+    variables: u8,
+) -> Result<Vec<Pair>, AllocError> {
     let mut pairs = Vec::new(heap);
     for variable in 0..variables {
         for value in 0..64u8 {
@@ -52,7 +56,14 @@ fn same(a: &[Pair], b: &[Pair]) -> bool {
 }
 
 // Filters the table as it is, and compares with the judge. It answers whether there is a filtered table.
-fn agrees<T: DomainTable>(heap: Global, table: &mut T, model: &Model, rules: &[Rule], start: Start, variables: u8) -> Result<bool, Fail> {
+fn agrees<T: DomainTable>(
+    heap: Global,
+    table: &mut T,
+    model: &Model,
+    rules: &[Rule],
+    start: Start,
+    variables: u8,
+) -> Result<bool, Fail> {
     let before = pairs_of(heap, table, variables)?;
     let expected = fixpoint(heap, &before, rules, variables)?;
     let marks = table.marks();
@@ -74,7 +85,12 @@ fn agrees<T: DomainTable>(heap: Global, table: &mut T, model: &Model, rules: &[R
 }
 
 // From the windows, and then twice after a decision on a variable, from the table that is filtered by then.
-fn agrees_after_decisions(heap: Global, windows: &[Window], rules: &[Rule], chance: &mut Chance) -> Result<(), Fail> {
+fn agrees_after_decisions(
+    heap: Global,
+    windows: &[Window],
+    rules: &[Rule],
+    chance: &mut Chance,
+) -> Result<(), Fail> {
     let bytes = bytes_of(heap, windows, rules)?;
     let mut model = Model::fresh();
     model.read(&bytes)?;
@@ -96,7 +112,14 @@ fn agrees_after_decisions(heap: Global, windows: &[Window], rules: &[Rule], chan
         } else {
             let _ = table.keep(x, v)?;
         }
-        if !agrees(heap, &mut table, &model, rules, Start::Changed(x), variables)? {
+        if !agrees(
+            heap,
+            &mut table,
+            &model,
+            rules,
+            Start::Changed(x),
+            variables,
+        )? {
             return Ok(());
         }
     }
@@ -106,7 +129,9 @@ fn agrees_after_decisions(heap: Global, windows: &[Window], rules: &[Rule], chan
 #[test]
 fn small_models_by_chance(rt: LibcRuntime) -> Result<(), Fail> {
     let heap = rt.alloc();
-    let mut chance = Chance { state: 88172645463325252 };
+    let mut chance = Chance {
+        state: 88172645463325252,
+    };
     for _ in 0..4000u32 {
         let sample = sample_by(heap, &mut chance)?;
         agrees_after_decisions(heap, &sample.windows, &sample.rules, &mut chance)?;
@@ -115,11 +140,17 @@ fn small_models_by_chance(rt: LibcRuntime) -> Result<(), Fail> {
 }
 
 fn at_most(heap: Global, bound: i32, terms: &[Term]) -> Result<Rule, AllocError> {
-    Ok(Rule::AtMost { bound, terms: terms.to_vec(heap)? })
+    Ok(Rule::AtMost {
+        bound,
+        terms: terms.to_vec(heap)?,
+    })
 }
 
 fn term(variable: u8, coefficient: i16) -> Term {
-    Term { variable, coefficient }
+    Term {
+        variable,
+        coefficient,
+    }
 }
 
 fn one_rule(heap: Global, windows: &[Window], rule: Rule) -> Result<(), Fail> {
@@ -133,15 +164,24 @@ fn one_rule(heap: Global, windows: &[Window], rule: Rule) -> Result<(), Fail> {
 #[test]
 fn extremes_of_coefficients_and_bounds(rt: LibcRuntime) -> Result<(), Fail> {
     let heap = rt.alloc();
-    let wide = [Window { low: 0, high: 64 }; 64];
+    let wide = [Window { low: 0, high: 64 }; 3];
+    let many = [Window { low: 62, high: 64 }; 64];
     for bound in [i32::MIN, i32::MIN + 1, -1, 0, 1, i32::MAX - 1, i32::MAX] {
         for coefficient in [i16::MIN, -1, 0, 1, i16::MAX] {
             let mut terms = Vec::new(heap);
             for x in 0..64u8 {
                 terms.push(term(x, coefficient))?;
             }
-            one_rule(heap, &wide[0..3], at_most(heap, bound, &[term(0, coefficient), term(1, i16::MIN), term(2, i16::MAX)])?)?;
-            one_rule(heap, &wide, Rule::AtMost { bound, terms })?;
+            one_rule(
+                heap,
+                &wide,
+                at_most(
+                    heap,
+                    bound,
+                    &[term(0, coefficient), term(1, i16::MIN), term(2, i16::MAX)],
+                )?,
+            )?;
+            one_rule(heap, &many, Rule::AtMost { bound, terms })?;
         }
     }
     Ok(())
@@ -151,7 +191,32 @@ fn extremes_of_coefficients_and_bounds(rt: LibcRuntime) -> Result<(), Fail> {
 #[test]
 fn one_below_the_other(rt: LibcRuntime) -> Result<(), Fail> {
     let heap = rt.alloc();
-    let bytes = [5, 0, 1, 0, 2, 0, 3, 0, 3, 11, 0, 2, 0, 2, 255, 255, 255, 255, 0, 1, 0, 1, 255, 255];
+    let bytes = [
+        5,
+        0,
+        1,
+        0,
+        2,
+        0,
+        3,
+        0,
+        3,
+        11,
+        0,
+        2,
+        0,
+        2,
+        255,
+        255,
+        255,
+        255,
+        0,
+        1,
+        0,
+        1,
+        255,
+        255,
+    ];
     let mut model = Model::fresh();
     model.read(&bytes)?;
     let mut words = [0u64; 8];
@@ -159,7 +224,24 @@ fn one_below_the_other(rt: LibcRuntime) -> Result<(), Fail> {
     let mut list = WaitingList::new();
     check(filter(&mut table, &model, &standard(), &mut list, Start::All)?)?;
     let left = pairs_of(heap, &table, 2)?;
-    let expected = [Pair { variable: 0, value: 0 }, Pair { variable: 0, value: 1 }, Pair { variable: 1, value: 1 }, Pair { variable: 1, value: 2 }];
+    let expected = [
+        Pair {
+            variable: 0,
+            value: 0,
+        },
+        Pair {
+            variable: 0,
+            value: 1,
+        },
+        Pair {
+            variable: 1,
+            value: 1,
+        },
+        Pair {
+            variable: 1,
+            value: 2,
+        },
+    ];
     check(same(&left, &expected))
 }
 
@@ -170,5 +252,11 @@ fn a_pass_that_empties_a_domain(rt: LibcRuntime) -> Result<(), Fail> {
     let two = [Window { low: 0, high: 2 }; 3];
     one_rule(heap, &two, at_most(heap, -1, &[term(1, 1)])?)?;
     one_rule(heap, &two, at_most(heap, -3, &[term(0, -1), term(2, -1)])?)?;
-    one_rule(heap, &[Window { low: 1, high: 2 }; 3], Rule::Different { variables: [0, 1, 2].to_vec(heap)? })
+    one_rule(
+        heap,
+        &[Window { low: 1, high: 2 }; 3],
+        Rule::Different {
+            variables: [0, 1, 2].to_vec(heap)?,
+        },
+    )
 }
