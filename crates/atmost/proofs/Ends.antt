@@ -1,18 +1,18 @@
 -- The ends of a domain, and the least part of a term. Assumes nothing.
-use mathlib.Core.Path.{_≡_, refl, sym, ap, ap₂, _∙_, subst}
-use mathlib.Core.Bool.{Bool, true, false, cond, not, _&&_, _||_}
+use mathlib.Core.Path.{_≡_, refl, sym, ap, _∙_, subst}
+use mathlib.Core.Bool.{Bool, true, false, cond}
 use mathlib.Core.List.{List, [], _∷_}
-use mathlib.Core.Logic.{_⊎_, inl, inr, ⊎-elim}
+use mathlib.Core.Logic.{_⊎_, ⊎-elim}
 use Prim.Native.Nat.{ℕ, zero, suc, _+_, _*_, _<_, _≤_}
 use native.Mathlib.Omega.{arith}
 use native.Mathlib.Nat.{mul-le-mul-left}
 use lib.IntN.{ℤ, pos, negsuc, _+ℤ_, _*ℤ_}
-use lib.Signed.{ltZ, leZ, _≤ℤ_}
-use lib.ListN.{length, getD}
+use lib.Signed.{ltZ, _≤ℤ_}
+use lib.ListN.{length}
 use borrow.Author.Differences.{up, down}
 use Rattle.std.proofs.shelf.Signed.{ints}
-use Rattle.std.proofs.shelf.Tests.{cases-bool, cases-eq, cond-true, cond-false, both-ways}
-use Rattle.tree.specs.Tables.{Table, Inside}
+use Rattle.std.proofs.shelf.Tests.{cases-bool, cond-true, cond-false, both-ways}
+use Rattle.tree.specs.Tables.{Table}
 use Rattle.tree.specs.Domains.{least, greatest}
 use Rattle.model.specs.declared.values.Term.{Term}
 use Rattle.tree.proofs.Domains.{least-bottom, greatest-top}

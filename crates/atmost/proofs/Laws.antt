@@ -1,8 +1,8 @@
 -- At most keeps the laws of a kind. Assumes nothing.
 use mathlib.Core.Path.{_≡_, refl, sym, ap, ap₂, _∙_, subst, fun-ext}
-use mathlib.Core.Bool.{Bool, true, false, cond, not, _&&_, _||_}
+use mathlib.Core.Bool.{Bool, true, false, not, _||_}
 use mathlib.Core.List.{List, [], _∷_, map}
-use mathlib.Core.Logic.{_⊎_, inl, inr, ⊎-elim}
+use mathlib.Core.Logic.{_⊎_, ⊎-elim}
 use Prim.Native.Nat.{ℕ, zero, suc, _+_, _<_, _≤_}
 use native.Mathlib.Omega.{arith}
 use lib.IntN.{ℤ, pos, _+ℤ_, _*ℤ_}
@@ -10,13 +10,13 @@ use lib.Signed.{ltZ, leZ, _≤ℤ_}
 use lib.ListN.{length, getD}
 use lib.Dec.{eqb}
 use Rattle.std.proofs.shelf.Signed.{ints}
-use Rattle.std.proofs.shelf.Tests.{cond-true, cond-false, cases-bool, both-ways, or-cases, or-left, or-right, eq-eqb, eqb-true}
+use Rattle.std.proofs.shelf.Tests.{cond-true, cond-false, both-ways, or-cases, or-left, or-right, eq-eqb, eqb-true}
 use Rattle.tree.specs.Tables.{Table, Inside, join, single}
 use Rattle.tree.specs.Domains.{every, least, greatest}
 use Rattle.tree.proofs.Tables.{same-test, join-left, join-right}
 use Rattle.tree.proofs.Domains.{every-from, every-to, implied, implies, least-bottom, greatest-top}
-use Rattle.tree.proofs.Singles.{single-has, single-is}
-use Rattle.model.specs.Values.{Record, at-most, different}
+use Rattle.tree.proofs.Singles.{single-is}
+use Rattle.model.specs.Values.{at-most, different}
 use Rattle.kinds.specs.Laws.{Joins, Rests, Singles}
 use Rattle.model.specs.declared.values.Term.{Term}
 use Rattle.atmost.specs.Linear.{low, lows, term, others, within, all-within, stable, sum, meets, listed, Within-bound, Reads-like-the-rule}

@@ -1,30 +1,29 @@
 -- The numbers that a pass computes. Assumes nothing.
 use mathlib.Core.Path.{_≡_, refl, sym, ap, ap₂, _∙_, subst}
-use mathlib.Core.Bool.{Bool, true, false, cond, not}
+use mathlib.Core.Bool.{Bool, true, false, cond}
 use mathlib.Core.List.{List, [], _∷_}
 use mathlib.Core.Logic.{_⊎_, inl, inr, ⊎-elim}
-use Prim.Native.Nat.{ℕ, zero, suc, _+_, _*_, _<_, _≤_, _^_}
+use Prim.Native.Nat.{ℕ, zero, suc, _+_, _*_, _<_, _≤_}
 use native.Mathlib.Omega.{arith}
-use native.Mathlib.Nat.{mul-le-mul-left, mul-le-mul-right}
+use native.Mathlib.Nat.{mul-le-mul-left}
 use lib.IntN.{ℤ, pos, negsuc, _+ℤ_, _-ℤ_, _*ℤ_}
-use lib.Signed.{ltZ, leZ, _≤ℤ_}
+use lib.Signed.{ltZ}
 use mir.Syntax.{w16, w32, w64}
 use mir.Val.{SFits, toZ, ofZ}
 use borrow.Author.Differences.{up, down, fits-out}
 use Rattle.std.proofs.shelf.Signed.{ints, toZ-ofZ}
-use Rattle.std.proofs.shelf.Tests.{cases-bool, cases-eq, cases-lt, cond-true, cond-false, both-ways}
+use Rattle.std.proofs.shelf.Tests.{cases-lt, cond-true, cond-false, both-ways}
 use Rattle.std.specs.declared.result.Result.the-variants.{Ok}
 use Rattle.std.specs.declared.option.Option.{Option}
 use Rattle.std.specs.declared.option.Option.the-variants.{Some, None}
-use Rattle.tree.specs.Tables.{Table, Inside}
+use Rattle.tree.specs.Tables.{Table}
 use Rattle.tree.specs.Domains.{least, greatest}
 use Rattle.tables.specs.States.{TableState, Bounds}
-use Rattle.tables.specs.Calls.{Leasts, Greatests}
 use Rattle.model.specs.declared.values.Term.{Term}
-use lib.ListN.{length, getD, take}
+use lib.ListN.{length, take}
 use lib.Dec.{eqb}
 use Rattle.std.proofs.shelf.Tests.{or-cases, or-left, or-right, eqb-true}
-use Rattle.atmost.specs.Linear.{low, lows, term, others, listed}
+use Rattle.atmost.specs.Linear.{low, lows, term, listed}
 use Rattle.atmost.specs.Trims.{End, Small, Small-sum}
 use Rattle.tree.proofs.Domains.{least-bottom, greatest-top}
 

@@ -167,9 +167,6 @@ pub end-err : (u : TableState) (x : ℕ) (up : Bool) (e : TableFault) → End u 
 end-err u x true e h = h .0
 end-err u x false e h = h .0
 
-pub missing : (s : TableState) (x : ℕ) → Bounds s → s .variables ≤ x → Dead (s .domains) x
-missing s x b l v = ⊎-elim (λ h. absurd (omega (arith, l, b .within x v h .0))) (λ h. h) (cases-bool (s .domains x v))
-
 -- ---- all terms
 
 -- The terms before k were looked at.

@@ -1,4 +1,3 @@
-ghost use mathlib.Core.Path.{_≡_};
 ghost use Rattle.atmost.specs.Linear.{stable as stable-at-most, meets as meets-at-most, Reads-like-the-rule};
 use crate::narrow::narrow;
 use kinds::kind::Kind;

@@ -1,6 +1,5 @@
 -- A lawful kind in front of lawful kinds. Assumes nothing.
 use mathlib.Core.Path.{_≡_, refl, sym, ap, _∙_, subst}
-use mathlib.Core.Bool.{Bool, true, false, cond}
 use mathlib.Core.Logic.{⊎-elim}
 use Prim.Native.Nat.{ℕ}
 use native.Mathlib.Omega.{arith}
@@ -9,7 +8,6 @@ use Rattle.std.specs.declared.option.Option.{Option}
 use Rattle.std.specs.declared.option.Option.the-variants.{Some, None}
 use Rattle.std.proofs.shelf.Tests.{cond-true, cond-false, eq-eqb, ne-eqb, cases-eq}
 use Rattle.model.specs.Values.{Record, names}
-use Rattle.model.specs.Reading.{among}
 use Rattle.kinds.specs.Demands.{Demand, Demands, Stable, Meets, kind-of, demand-of, with-kind, no-demands, demanded}
 use Rattle.kinds.specs.Laws.{Joins, Rests, Singles, Keeps-laws, Lawful-kinds}
 use Rattle.bank.specs.Numbers.{numbered}

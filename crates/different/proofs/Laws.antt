@@ -1,8 +1,7 @@
 -- All different keeps the laws of a kind. Assumes nothing.
 use mathlib.Core.Path.{_≡_, refl, sym, ap, ap₂, _∙_, fun-ext}
-use mathlib.Core.Bool.{Bool, true, false, not, _&&_, _||_}
-use mathlib.Core.List.{List}
-use mathlib.Core.Logic.{⊎-elim, _≢_}
+use mathlib.Core.Bool.{Bool, true, not, _&&_, _||_}
+use mathlib.Core.Logic.{⊎-elim}
 use Prim.Native.Nat.{ℕ, _<_}
 use lib.Dec.{eqb}
 use lib.ListN.{getD}
@@ -12,10 +11,9 @@ use Rattle.tree.specs.Domains.{every}
 use Rattle.tree.proofs.Tables.{same-test, join-left, join-right}
 use Rattle.tree.proofs.Domains.{every-from, every-to, implied, implies, clash, no-clash}
 use Rattle.tree.proofs.Singles.{single-is}
-use Rattle.model.specs.Values.{Record, at-most, different}
-use Rattle.model.specs.Reading.{among}
+use Rattle.model.specs.Values.{at-most, different}
 use Rattle.kinds.specs.Laws.{Joins, Rests, Singles}
-use Rattle.different.specs.Different.{lone, apart, pairs, stable, meets, Apart, Reads-like-the-rule}
+use Rattle.different.specs.Different.{lone, apart, stable, meets, Reads-like-the-rule}
 use Rattle.different.proofs.Lists.{pairs-from, pairs-to, pairs-same}
 
 -- v is the only value of x

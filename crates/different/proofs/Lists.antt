@@ -1,13 +1,13 @@
 -- Tests of all of a list, and of all pairs of it. Assumes nothing.
 use mathlib.Core.Path.{_≡_, refl, sym, ap, _∙_}
-use mathlib.Core.Bool.{Bool, true, false, _&&_, _||_}
+use mathlib.Core.Bool.{Bool, true, false, _||_}
 use mathlib.Core.List.{List, [], _∷_}
 use mathlib.Core.Logic.{⊎-elim, _≢_}
 use Prim.Native.Nat.{ℕ, zero, suc, _<_}
 use native.Mathlib.Omega.{arith}
 use lib.Dec.{eqb}
 use lib.ListN.{length, getD}
-use Rattle.std.proofs.shelf.Tests.{and-parts, and-from, or-cases, or-left, or-right, both-ways, eqb-true, eq-eqb, eqb-false, cases-eq}
+use Rattle.std.proofs.shelf.Tests.{and-parts, and-from, or-cases, or-left, or-right, both-ways, eqb-true, eq-eqb, cases-eq}
 use Rattle.tree.proofs.Tables.{same-test}
 use Rattle.model.specs.Reading.{among}
 use Rattle.different.specs.Different.{each, pairs}

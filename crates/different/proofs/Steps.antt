@@ -1,6 +1,6 @@
 -- The steps of a pass. Assumes nothing.
 use mathlib.Core.Path.{_≡_, refl, sym, ap, _∙_, subst}
-use mathlib.Core.Bool.{Bool, true, false}
+use mathlib.Core.Bool.{true, false}
 use mathlib.Core.List.{List}
 use mathlib.Core.Logic.{⊎-elim, _≢_}
 use Prim.Native.Nat.{ℕ, _<_, _≤_, _+_}
@@ -12,21 +12,20 @@ use Rattle.std.specs.declared.option.Option.the-variants.{Some, None}
 use Rattle.std.proofs.shelf.Tests.{both-ways, cases-bool, cases-eq}
 use Rattle.bits.specs.Bit.{has, Empty}
 use Rattle.bits.specs.declared.Set.{Set}
-use Rattle.tree.specs.Tables.{Table, Inside, dropped}
+use Rattle.tree.specs.Tables.{dropped}
 use Rattle.tree.proofs.Tables.{dropped-has}
-use Rattle.model.specs.Values.{Record, different}
+use Rattle.model.specs.Values.{different}
 use Rattle.model.specs.Reading.{among}
 use Rattle.tables.specs.States.{TableState, with-domains, Bounds}
 use Rattle.tables.specs.Calls.{Leasts, Greatests}
 use Rattle.kinds.specs.Demands.{Demand, demand-of}
-use Rattle.kinds.specs.Laws.{Filled}
 use Rattle.kinds.specs.Passes.{Alive, Dead}
 use Rattle.kinds.specs.Sofar.{Sofar}
 use Rattle.kinds.specs.declared.shrunk.Shrunk.{Shrunk}
 use Rattle.kinds.proofs.Passing.{sofar-none, nothing-yet}
 use Rattle.different.specs.Different.{apart, stable, meets}
 use Rattle.different.specs.Expels.{Alone, Barred, Expelled}
-use Rattle.different.proofs.Lists.{among-at, at-among, pairs-from, pairs-to}
+use Rattle.different.proofs.Lists.{among-at, pairs-from, pairs-to}
 use Rattle.different.proofs.Laws.{apart-to, apart-from}
 
 -- Of the listed variables those before the place k were looked at, but for x.
@@ -144,24 +143,6 @@ least-some s x o v e h = (subst (λ (z : Option ℕ). Leasts s x (Ok z)) e h) .1
 
 pub greatest-some : (s : TableState) (x : ℕ) (o : Option ℕ) (v : ℕ) → o ≡ Some v → Greatests s x (Ok o) → s .domains x v ≡ true
 greatest-some s x o v e h = (subst (λ (z : Option ℕ). Greatests s x (Ok z)) e h) .1 .0
-
-pub least-none : (s : TableState) (x : ℕ) (o : Option ℕ) → o ≡ None → Leasts s x (Ok o) → Dead (s .domains) x
-least-none s x o e h = (subst (λ (z : Option ℕ). Leasts s x (Ok z)) e h) .1
-
-pub greatest-none : (s : TableState) (x : ℕ) (o : Option ℕ) → o ≡ None → Greatests s x (Ok o) → Dead (s .domains) x
-greatest-none s x o e h = (subst (λ (z : Option ℕ). Greatests s x (Ok z)) e h) .1
-
-pub one-value : (s : TableState) (x : ℕ) (o p : Option ℕ) (u v : ℕ) → o ≡ Some u → p ≡ Some v → u ≡ v → Leasts s x (Ok o) → Greatests s x (Ok p) → (w : ℕ) → s .domains x w ≡ true → w ≡ u
-one-value s x o p u v eo ep e low high w h =
-    let a = (subst (λ (z : Option ℕ). Leasts s x (Ok z)) eo low) .1 .1 in
-    let c = (subst (λ (z : Option ℕ). Greatests s x (Ok z)) ep high) .1 .1 in
-    ⊎-elim (λ q. q) (λ d. ⊎-elim
-    (λ l. absurd (both-ways (s .domains x w) (a w l) h))
-    (λ l. absurd (both-ways (s .domains x w) (c w (omega (arith, l, d, e))) h))
-    (Rattle.std.proofs.shelf.Tests.cases-lt w u)) (cases-eq w u)
-
-pub missing : (s : TableState) (x : ℕ) → Bounds s → s .variables ≤ x → Dead (s .domains) x
-missing s x b l v = ⊎-elim (λ h. absurd (omega (arith, l, b .within x v h .0))) (λ h. h) (cases-bool (s .domains x v))
 
 pub alone-some : (s : TableState) (x : ℕ) (o : Option ℕ) (v : ℕ) → o ≡ Some v → Alone s x (Ok o) → (s .domains x v ≡ true) × ((u : ℕ) → s .domains x u ≡ true → u ≡ v)
 alone-some s x o v e h = subst (λ (z : Option ℕ). Alone s x (Ok z)) e h

@@ -1,4 +1,3 @@
-ghost use mathlib.Core.Path.{_≡_};
 ghost use Rattle.different.specs.Different.{stable as stable-different, meets as meets-different, Reads-like-the-rule};
 use crate::expel::separate;
 use kinds::kind::Kind;

@@ -1,5 +1,5 @@
 -- The ring as a queue, and how many can wait. Assumes nothing.
-use mathlib.Core.Path.{_≡_, refl, sym, ap, ap₂, _∙_, subst}
+use mathlib.Core.Path.{_≡_, refl, sym, ap, ap₂, _∙_}
 use mathlib.Core.Bool.{Bool, true, false, cond, not, _&&_, _||_}
 use mathlib.Core.List.{List, [], _∷_, _++_}
 use mathlib.Core.Logic.{_⊎_, inl, inr, ⊎-elim, _≢_}
@@ -8,7 +8,7 @@ use native.Mathlib.Omega.{arith}
 use lib.ListN.{length, getD, set}
 use lib.Seq.{getD-set-same, getD-set-other}
 use lib.Dec.{eqb}
-use Rattle.std.proofs.shelf.Tests.{both-ways, or-cases, or-left, or-right, or-parts, or-from, cases-eq, cases-bool, cond-both, cond-true, cond-false, eqb-true, eqb-false, eq-eqb, ne-eqb}
+use Rattle.std.proofs.shelf.Tests.{or-cases, or-left, or-right, or-parts, or-from, cases-eq, cases-bool, cond-both, cond-true, cond-false, eqb-true, eqb-false, eq-eqb, ne-eqb}
 use Rattle.tree.specs.Domains.{size}
 use Rattle.model.specs.Reading.{among}
 use Rattle.filtering.specs.Waits.{around, Once, behind, woken}

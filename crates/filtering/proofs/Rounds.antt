@@ -1,20 +1,19 @@
 -- The rounds of filtering. Assumes nothing.
 use mathlib.Core.Path.{_≡_, refl, sym, ap, _∙_, subst}
-use mathlib.Core.Bool.{Bool, true, false, _||_}
+use mathlib.Core.Bool.{Bool, true, false}
 use mathlib.Core.List.{List, [], _∷_}
-use mathlib.Core.Logic.{_⊎_, inl, inr, ⊎-elim, _≢_}
-use Prim.Native.Nat.{ℕ, zero, suc, _+_, _*_, _≤_, _<_}
+use mathlib.Core.Logic.{_⊎_, ⊎-elim, _≢_}
+use Prim.Native.Nat.{ℕ, suc, _+_, _*_, _≤_, _<_}
 use native.Mathlib.Omega.{arith}
 use native.Mathlib.Nat.{mul-le-mul}
 use lib.ListN.{length}
 use lib.Dec.{eqb}
 use Rattle.std.specs.declared.result.Result.the-variants.{Ok}
 use Rattle.std.specs.declared.option.Option.{Option}
-use Rattle.std.specs.declared.option.Option.the-variants.{Some, None}
 use Rattle.std.proofs.shelf.Tests.{both-ways, or-left, or-right, or-from, cases-eq, cases-bool, eq-eqb, ne-eqb}
 use Rattle.bits.specs.Bit.{has, Empty}
-use Rattle.tree.specs.Tables.{Table, Inside}
-use Rattle.tree.specs.Filter.{Problem, Full, Fits, Filtered, failed, NodeOf}
+use Rattle.tree.specs.Tables.{Table}
+use Rattle.tree.specs.Filter.{Problem, Full, Filtered, failed, NodeOf}
 use Rattle.tree.specs.Find.{grid, count, total}
 use Rattle.tree.proofs.Tables.{same-test, inside-both, inside-trans}
 use Rattle.tree.proofs.Pairs.{count-inside, count-grid, loses}
@@ -23,7 +22,7 @@ use Rattle.model.specs.Values.{Record}
 use Rattle.model.specs.Reading.{among}
 use Rattle.model.specs.Drafts.{names?}
 use Rattle.tables.specs.States.{TableState, with-domains, Bounds}
-use Rattle.kinds.specs.Demands.{Demand, Demands, demanded}
+use Rattle.kinds.specs.Demands.{Demands, demanded}
 use Rattle.kinds.specs.Problems.{Asks, Laws, together}
 use Rattle.kinds.specs.Passes.{Alive, Dead, Narrows, Passed}
 use Rattle.kinds.specs.declared.shrunk.Shrunk.{Shrunk}

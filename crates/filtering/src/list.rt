@@ -1,5 +1,5 @@
 ghost use mathlib.Core.Path.{_≡_};
-ghost use Prim.Native.Nat.{ℕ, _<_};
+ghost use Prim.Native.Nat.{_<_, _≤_};
 ghost use Rattle.filtering.specs.Waits.{queue, Orderly, Idle, behind, Pops};
 use bits::Set;
 
@@ -36,9 +36,10 @@ impl WaitingList {
         self.len = 0;
     }
 
-    // The record waits behind all others, unless it waits already.
+    // The record waits behind all others, unless it waits already or is none that a model can have.
     pub fn push(&mut self, item: usize)
-        ensures { λ _. ⌜ (Orderly (now (self .entry)) → item < 64 → (queue (now (self .exit)) ≡ behind (queue (now (self .entry))) item) × Orderly (now (self .exit))) ⌝ }
+        ensures waits { λ _. ⌜ (Orderly (now (self .entry)) → item < 64 → (queue (now (self .exit)) ≡ behind (queue (now (self .entry))) item) × Orderly (now (self .exit))) ⌝ }
+        ensures past { λ _. ⌜ (64 ≤ item → now (self .exit) ≡ now (self .entry)) ⌝ }
     {
         if item >= ROOM {
             return;

@@ -1,8 +1,8 @@
 -- The steps that every pass has. Assumes nothing.
 use mathlib.Core.Path.{_≡_, refl, sym, ap, ap₂, _∙_, subst}
-use mathlib.Core.Bool.{Bool, true, false, not, _&&_, _||_}
+use mathlib.Core.Bool.{true, false, not, _&&_, _||_}
 use mathlib.Core.Logic.{⊎-elim}
-use Prim.Native.Nat.{ℕ, _<_}
+use Prim.Native.Nat.{ℕ}
 use lib.Dec.{eqb}
 use Rattle.std.proofs.shelf.Tests.{both-ways, and-left, or-cases, or-parts, eqb-true, eqb-false, cases-bool, cases-eq}
 use Rattle.bits.specs.Bit.{has, Empty}
@@ -10,9 +10,9 @@ use Rattle.bits.specs.declared.Set.{Set}
 use Rattle.tree.specs.Tables.{Table, Inside, dropped}
 use Rattle.tree.proofs.Tables.{inside-both, inside-trans, dropped-inside, dropped-has, dropped-not}
 use Rattle.tables.specs.States.{TableState, with-domains}
-use Rattle.kinds.specs.Demands.{Demand, nothing}
+use Rattle.kinds.specs.Demands.{Demand}
 use Rattle.kinds.specs.Laws.{Filled}
-use Rattle.kinds.specs.Passes.{Narrows, Smaller, Alive, Dead, Passed}
+use Rattle.kinds.specs.Passes.{Narrows, Alive, Dead, Passed}
 use Rattle.kinds.specs.Sofar.{Sofar}
 use Rattle.kinds.specs.declared.shrunk.Shrunk.{Shrunk}
 
@@ -119,8 +119,3 @@ passed-full n A s r u so living f full st = record {
   stops = λ y z a d. absurd (not-both (u .domains) y (full y (emptied-named n A s u (so .narrows) y a d)) d);
   stable = λ z k. st z;
 }
-
--- what is no record of the kind asks nothing
-pub passed-nothing : (n : ℕ) (s : TableState) (r : Shrunk) → Empty (has (r .set .word)) → r .failed ≡ false → Passed n nothing s r s
-passed-nothing n s r none f =
-    passed-full n nothing s r s (sofar-none n nothing s (r .set) none) (λ x k. absurd (both-ways false refl k)) f (λ x k. absurd (both-ways false refl k)) (λ e. refl)

@@ -1,6 +1,6 @@
 -- The records of a valid model name variables that there are, and keep the laws of their kinds. Assumes nothing.
-use mathlib.Core.Path.{_≡_, refl, sym, ap, ap₂, _∙_, subst}
-use mathlib.Core.Bool.{Bool, true, false, not, _&&_, _||_}
+use mathlib.Core.Path.{_≡_, refl, sym, ap, ap₂, subst}
+use mathlib.Core.Bool.{Bool, true, false, not, _&&_}
 use mathlib.Core.List.{List, [], _∷_}
 use mathlib.Core.Logic.{⊎-elim}
 use Prim.Native.Nat.{ℕ, zero, suc, _<_, _≤_}
@@ -10,7 +10,7 @@ use lib.ListN.{length}
 use Rattle.std.specs.declared.option.Option.{Option}
 use Rattle.std.specs.declared.option.Option.the-variants.{Some, None}
 use Rattle.std.proofs.shelf.Tests.{and-parts, both-ways, or-cases, eqb-true, ltb-true, leb-true}
-use Rattle.tree.specs.Tables.{Table, join, single}
+use Rattle.tree.specs.Tables.{join, single}
 use Rattle.tree.specs.Domains.{every}
 use Rattle.tree.specs.Filter.{Lawful}
 use Rattle.tree.proofs.Domains.{every-from, every-to}
@@ -19,7 +19,7 @@ use Rattle.model.specs.Reading.{among, named-once?, record-fits?, records-fit?,
 use Rattle.model.specs.Values.{entries}
 use Rattle.model.specs.Drafts.{names?}
 use Rattle.std.specs.shelf.Maps.{nth}
-use Rattle.kinds.specs.Demands.{Demand, Demands, demanded, nothing}
+use Rattle.kinds.specs.Demands.{Demands, demanded, nothing}
 use Rattle.kinds.specs.Laws.{Named, Keeps-laws, Lawful-kinds}
 use Rattle.kinds.specs.Problems.{Asks, Laws, asks, together}
 use Rattle.kinds.specs.Theorems.{Problem-is-lawful}

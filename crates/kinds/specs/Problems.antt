@@ -1,10 +1,8 @@
 -- The problem that a model and a set of kinds make. Assumes nothing.
 use mathlib.Core.Path.{_≡_}
-use mathlib.Core.Bool.{Bool, true, false}
-use mathlib.Core.List.{List}
+use mathlib.Core.Bool.{Bool, true}
 use Prim.Native.Nat.{ℕ, _<_, _≤_}
 use lib.ListN.{length}
-use Rattle.tree.specs.Tables.{Table}
 use Rattle.tree.specs.Domains.{every}
 use Rattle.tree.specs.Filter.{Problem}
 use Rattle.model.specs.Values.{Value}

@@ -7,7 +7,7 @@ use Rattle.model.specs.Values.{Value}
 use Rattle.model.specs.Reading.{valid?}
 use Rattle.kinds.specs.Demands.{Demands}
 use Rattle.kinds.specs.Laws.{Lawful-kinds}
-use Rattle.kinds.specs.Problems.{Laws, asks, problem}
+use Rattle.kinds.specs.Problems.{problem}
 
 -- The problem that a valid model and lawful kinds make is lawful, for every width.
 abbrev pub Problem-is-lawful : Type 0

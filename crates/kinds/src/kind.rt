@@ -1,12 +1,10 @@
 ghost use mathlib.Core.Path.{_≡_};
 ghost use Prim.Native.Nat.{ℕ};
 ghost use lib.ListN.{length};
-ghost use Rattle.std.specs.Options.{Cases as BySome};
-ghost use Rattle.std.specs.declared.option.Option.the-variants.{Some, None};
 ghost use Rattle.stores.specs.Rows.{Keeps};
 ghost use Rattle.model.specs.Meaning.{windows, records};
 ghost use Rattle.std.specs.shelf.Maps.{nth};
-ghost use Rattle.kinds.specs.Demands.{Stable, Meets, Demands, kind-of, with-kind, no-demands, demanded};
+ghost use Rattle.kinds.specs.Demands.{Stable, Meets, Demands, with-kind, no-demands, demanded};
 ghost use Rattle.kinds.specs.Laws.{Joins, Rests, Singles, Lawful-kinds};
 ghost use Rattle.kinds.specs.Passes.{Passes};
 ghost use Rattle.kinds.specs.Theorems.{Problem-is-lawful};

@@ -1,17 +1,16 @@
-use mathlib.Core.Path.{_≡_, refl, sym, ap, ap₂, subst, _∙_}
-use mathlib.Core.Bool.{Bool, true, false}
-use Prim.Native.Nat.{ℕ, _<_, _+_}
-use native.Mathlib.Omega.{arith}
-use lib.IntN.{ℤ, pos, _-ℤ_}
-use mir.Syntax.{w32, w64}
-use mir.Val.{SFits, toZ, ofZ}
+use mathlib.Core.Path.{refl, sym, subst}
+use mathlib.Core.Bool.{true, false}
+use Prim.Native.Nat.{_+_}
+use lib.IntN.{ℤ}
+use mir.Syntax.{w32}
+use mir.Val.{toZ, ofZ}
 use Rattle.std.proofs.shelf.Signed.{toZ-ofZ}
 use Rattle.model.specs.Values.{at-most}
 use Rattle.kinds.specs.Demands.{demand-of}
 use Rattle.atmost.specs.Linear.{term, stable, meets}
 use Rattle.atmost.proofs.Laws.{term-listed}
 use Rattle.atmost.proofs.Parts.{rest-fits, room-fits, room-is}
-use Rattle.atmost.proofs.Steps.{Main, Room, main-none, main-trim, main-stable, room-barred, room-of}
+use Rattle.atmost.proofs.Steps.{Main, main-none, main-trim, main-stable, room-barred, room-of}
 use Rattle.kinds.proofs.Passing.{not-both, passed-still, passed-empty, passed-full}
 use Rattle.atmost.proofs.narrow.narrow.Needs as need
 

@@ -1,17 +1,15 @@
-use mathlib.Core.Path.{_≡_, refl, sym, ap, subst, _∙_}
+use mathlib.Core.Path.{refl, sym, ap, subst, _∙_}
 use mathlib.Core.Logic.{⊎-elim}
-use Prim.Native.Nat.{ℕ, _<_, _+_, _≤_}
+use Prim.Native.Nat.{ℕ, _+_, _≤_}
 use native.Mathlib.Omega.{arith}
-use borrow.Author.Needs.{needs}
-use lib.IntN.{ℤ, pos, _+ℤ_}
-use lib.ListN.{length, take}
+use lib.IntN.{ℤ, _+ℤ_}
+use lib.ListN.{length}
 use mir.Syntax.{w64}
 use mir.Val.{SFits, toZ, ofZ}
-use mathlib.Core.Bool.{true}
 use mathlib.Core.List.{List}
 use Rattle.std.proofs.shelf.Signed.{ints, toZ-ofZ}
 use Rattle.atmost.specs.Linear.{term, lows, listed}
-use Rattle.atmost.specs.Trims.{Small, Small-sum}
+use Rattle.atmost.specs.Trims.{Small-sum}
 use Rattle.model.specs.declared.values.Term.{Term}
 use Rattle.atmost.proofs.Laws.{term-listed}
 use Rattle.atmost.proofs.Parts.{none-some, plus, small-fits, small-more, sum-fits, some-same, lows-more, listed-more, take-whole}

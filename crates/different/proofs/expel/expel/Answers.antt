@@ -1,16 +1,16 @@
-use mathlib.Core.Path.{_≡_, refl, sym, ap, subst, _∙_}
-use mathlib.Core.Bool.{true, false, _||_}
+use mathlib.Core.Path.{refl, sym, ap, subst, _∙_}
+use mathlib.Core.Bool.{true, false}
 use mathlib.Core.Logic.{⊎-elim}
 use Prim.Native.Nat.{ℕ, _<_, _+_}
 use native.Mathlib.Omega.{arith}
 use lib.Dec.{eqb}
-use lib.ListN.{length, getD}
+use lib.ListN.{getD}
 use Rattle.std.proofs.shelf.Tests.{both-ways, or-right, eq-eqb}
 use Rattle.bits.specs.Bit.{has}
 use Rattle.bits.specs.declared.Set.{Set}
 use Rattle.kinds.specs.Demands.{Demand}
 use Rattle.tables.specs.States.{TableState}
-use Rattle.different.specs.Expels.{Lists, Barred, Expels}
+use Rattle.different.specs.Expels.{Lists, Barred}
 use Rattle.kinds.specs.Sofar.{Sofar}
 use Rattle.different.proofs.Lists.{at-among, among-at}
 use Rattle.different.proofs.Steps.{Going, going-none, going-skip, going-drop, others-live}

@@ -1,7 +1,6 @@
-use mathlib.Core.Path.{_≡_, refl, sym, ap, subst, _∙_}
+use mathlib.Core.Path.{_≡_, refl, sym, ap, subst}
 use mathlib.Core.Bool.{true, false}
 use mathlib.Core.List.{List}
-use mathlib.Core.Logic.{⊎-elim}
 use Prim.Native.Nat.{ℕ, _<_, _≤_, _+_}
 use native.Mathlib.Omega.{arith}
 use borrow.Author.Count.{below-more}
@@ -10,7 +9,7 @@ use Rattle.bits.specs.declared.Set.{Set}
 use Rattle.model.specs.Reading.{among}
 use Rattle.model.specs.Values.{different}
 use Rattle.tables.specs.States.{TableState, Bounds}
-use Rattle.kinds.specs.Demands.{Demand, demand-of}
+use Rattle.kinds.specs.Demands.{demand-of}
 use Rattle.kinds.specs.Passes.{Alive}
 use Rattle.kinds.proofs.Passing.{passed-still, passed-empty, passed-full}
 use Rattle.different.specs.Different.{stable, meets}

@@ -1,5 +1,4 @@
-use mathlib.Core.Path.{_≡_, refl, sym, ap, subst, _∙_}
-use mathlib.Core.Bool.{true, false}
+use mathlib.Core.Path.{refl, sym, ap, subst, _∙_}
 use Prim.Native.Nat.{ℕ, _<_, _+_}
 use native.Mathlib.Omega.{arith}
 use lib.ListN.{length}
@@ -11,7 +10,7 @@ use Rattle.kinds.specs.Problems.{asks, together}
 use Rattle.kinds.proofs.Validity.{model-laws, demanded-below}
 use Rattle.filtering.specs.Waits.{queue, woken}
 use Rattle.filtering.specs.declared.list.WaitingList.{WaitingList}
-use Rattle.filtering.proofs.Rounds.{Mid, at-first, same-width, first-known, narrowed-none, narrowed-on, none-mid, some-mid, none-fits, done, filled-true, filled-false}
+use Rattle.filtering.proofs.Rounds.{Mid, at-first, same-width, narrowed-none, narrowed-on, none-mid, some-mid, none-fits, done, filled-true, filled-false}
 use Rattle.filtering.proofs.filter.run.Needs as need
 use Rattle.filtering.proofs.filter.run.Needs.{then-not-is-empty, else-not-is-empty}
 

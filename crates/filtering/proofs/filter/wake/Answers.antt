@@ -1,7 +1,7 @@
-use mathlib.Core.Path.{_≡_, refl, sym, ap, subst, _∙_}
+use mathlib.Core.Path.{_≡_, sym, ap, subst, _∙_}
 use mathlib.Core.Bool.{Bool}
 use mathlib.Core.List.{List}
-use Prim.Native.Nat.{ℕ, suc, _<_, _≤_, _+_}
+use Prim.Native.Nat.{ℕ, suc, _+_}
 use native.Mathlib.Omega.{arith}
 use Rattle.std.proofs.shelf.Tests.{cond-true, cond-false}
 use Rattle.bits.specs.Bit.{has}
@@ -21,7 +21,7 @@ loop-i-again c = λ o few.
     let Goal : WaitingList → Type 0 = λ l. (queue l ≡ woken R (i + 1) q) × Orderly l in
     elim (c .if-has .came) [
       | then-has w ↦
-          let did = w .push .ensures (inv .1) (omega (arith, few, c .loop-i-test .taken)) in
+          let did = w .push .ensures .waits (inv .1) (omega (arith, few, c .loop-i-test .taken)) in
           subst Goal (sym (w .list-is))
           (did .0 ∙ ap (λ (z : List ℕ). behind z i) (inv .0) ∙ sym (cond-true (R i) (behind W i) W (sym (c .has .ensures) ∙ w .if-has .taken)) ∙ ap (λ (k : ℕ). woken R k q) (sym next), did .1)
       | else-has w ↦

@@ -1,5 +1,5 @@
 use mathlib.Core.Path.{_≡_}
-use Prim.Native.Nat.{ℕ, _≤_}
+use Prim.Native.Nat.{_≤_}
 use Rattle.bits.specs.Bit.{has}
 use Rattle.filtering.specs.Waits.{Orderly, queue, woken}
 use Rattle.filtering.proofs.filter.wake.Given as given

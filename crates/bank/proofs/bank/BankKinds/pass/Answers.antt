@@ -1,4 +1,4 @@
-use mathlib.Core.Path.{_≡_, sym, subst, _∙_}
+use mathlib.Core.Path.{sym, subst, _∙_}
 use lib.ListN.{length}
 use Rattle.model.specs.Meaning.{windows, records}
 use Rattle.std.specs.shelf.Maps.{nth}

@@ -1,11 +1,11 @@
-use mathlib.Core.Path.{_≡_, refl, sym, ap, subst, _∙_}
-use mathlib.Core.Bool.{Bool, not, _&&_, _||_}
+use mathlib.Core.Path.{ap, subst, _∙_}
+use mathlib.Core.Bool.{Bool, not, _&&_}
 use Prim.Native.Nat.{ℕ, _+_, _-_, _%_}
 use lib.ListN.{getD}
 use lib.Dec.{eqb}
 use Rattle.std.proofs.shelf.Tests.{or-right}
 use Rattle.model.specs.Reading.{among}
-use Rattle.filtering.specs.Waits.{around, queue, Once}
+use Rattle.filtering.specs.Waits.{around, Once}
 use Rattle.filtering.proofs.Queues.{around-first, without-first}
 use Rattle.filtering.proofs.list.WaitingList.pop.Needs as need
 
