@@ -1,0 +1,2 @@
+pub mod kind;
+mod narrow;

@@ -1,0 +1,2 @@
+mod expel;
+pub mod kind;

@@ -1,0 +1,4 @@
+pub mod Walk
+pub mod Recomputed
+pub mod Walks
+pub mod Laws

@@ -1,0 +1,2 @@
+mod path;
+pub mod recomputing;

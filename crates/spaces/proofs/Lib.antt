@@ -1,0 +1,4 @@
+pub mod Opens
+pub mod Singles
+pub mod Stand
+pub mod Filterings
