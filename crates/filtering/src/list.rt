@@ -32,7 +32,6 @@ impl WaitingList {
         ensures { λ _. ⌜ Idle (now (self .exit)) ⌝ }
     {
         self.set = Set::empty();
-        self.head = 0;
         self.len = 0;
     }
 
