@@ -1,6 +1,6 @@
 -- What each call of a search does. Assumes nothing.
 use mathlib.Core.Path.{_≡_}
-use mathlib.Core.Bool.{Bool, true, false}
+use mathlib.Core.Bool.{Bool, true, false, cond}
 use mathlib.Core.List.{List, [], _∷_, _++_}
 use mathlib.Core.Logic.{_⊎_}
 use Prim.Native.Nat.{ℕ, _≤_, _<_}
@@ -57,6 +57,10 @@ pub record SearchState : Type 0 where
 
 abbrev pub view : {P R : Type 0} → (P → SpaceState) → (R → ℕ → ℕ → Rule) → Search P R → SearchState
 view means picks s = record { session = s .session; fresh = s .fresh; space = means (s .space); rule = ruling (means (s .space)) (picks (s .rule)) }
+
+-- The space and the rule where no session is open, and the search itself where one is.
+abbrev pub parts : {P R : Type 0} → Search P R → Result (P × R) (Search P R)
+parts s = cond (s .session) (Err s) (Ok (s .space, s .rule))
 
 -- The number of variables, and the nodes that are still to visit.
 abbrev pub variables : SearchState → ℕ

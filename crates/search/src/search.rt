@@ -2,7 +2,7 @@ ghost use mathlib.Core.Path.{_≡_};
 ghost use mathlib.Core.Bool.{true, false};
 ghost use mathlib.Core.List.{List};
 ghost use Rattle.stores.specs.Rows.{Keeps};
-ghost use Rattle.search.specs.Sessions.{number, place, view, rest, Sound, Begins, Closes, Nexts, Steps, none-left, Copied};
+ghost use Rattle.search.specs.Sessions.{number, place, parts, view, rest, Sound, Begins, Closes, Nexts, Steps, none-left, Copied};
 ghost use Rattle.search.specs.Runs.{Event, Runs, Law};
 ghost use Rattle.search.specs.declared.search.SearchFault.the-variants.{Space as FromSpace};
 use crate::rule::Rule;
@@ -101,6 +101,30 @@ impl<P: Space, R: Rule> Search<P, R> {
             session: false,
             fresh: false,
         }
+    }
+
+    // The space, to be asked.
+    pub fn space(&self) -> &P
+        ensures { λ r. ⌜ now r ≡ now (self .entry) .space ⌝ }
+    {
+        &self.space
+    }
+
+    // The space and the rule, or the search itself where a session is open.
+    pub fn apart(self) -> Result<(P, R), Search<P, R>>
+        ensures { λ r. ⌜ r ≡ parts self ⌝ }
+    {
+        let needed = self.session;
+        if needed {
+            return Err(self);
+        }
+        let Search {
+            space,
+            rule,
+            session: _,
+            fresh: _,
+        } = self;
+        Ok((space, rule))
     }
 
     // Enters the space and opens a session; no node is visited yet.
