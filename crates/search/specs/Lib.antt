@@ -1,0 +1,5 @@
+pub mod Choosing
+pub mod Remaining
+pub mod Sessions
+pub mod Runs
+pub mod Lawful

@@ -1,0 +1,2 @@
+pub mod rule;
+pub mod search;
