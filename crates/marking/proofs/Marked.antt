@@ -23,7 +23,7 @@ use Rattle.kinds.specs.Problems.{problem}
 use Rattle.filtering.specs.Filters.{Filters, Begins}
 use Rattle.filtering.specs.declared.filter.Start.the-variants.{Changed}
 use Rattle.spaces.specs.Pile.{SpaceState, piled, Ready, Settles, Stands}
-use Rattle.spaces.specs.Tops.{shown, stacked}
+use Rattle.spaces.specs.Tops.{shown, stacked, base-table}
 use Rattle.spaces.specs.Calls.{Puts, Enters, enters, Takes, takes, Turns, Leaves, state, of-top, Fails, open?}
 use Rattle.spaces.specs.declared.space.SpaceFault.{SpaceFault}
 use Rattle.spaces.specs.declared.space.SpaceFault.the-variants.{Busy, Idle, Failed, NoChoice, Base, NoTake, Table as Passed}
@@ -295,3 +295,8 @@ module _ (D : Demands) (m : Value) where
         ap (λ (s : TableState). marking D m s false alive 0 cs) e,
         subst (λ (s : TableState). Sound Part D m s false alive 0 cs) (sym e) (record { part = part; lawful = sd .lawful; few = sd .few; sized = sd .sized; runs = refl }),
       )
+
+-- without a run the table is the base
+pub given-back : (D : Demands) (m : Value) (t : TableState) (run alive : Bool) (k : ℕ) (cs : List (ℕ × ℕ)) → pile-of run alive t ≡ [] → t ≡ base-table (marking D m t run alive k cs)
+given-back D m t false alive k cs e = refl
+given-back D m t true alive k cs e = absurd (let z : _≡_ {A = ℕ} 0 1 = cc in omega arith)

@@ -1,9 +1,10 @@
 ghost use mathlib.Core.Path.{_≡_};
+ghost use mathlib.Core.List.{[]};
 ghost use denote.Ref.{now};
 ghost use Rattle.stores.specs.Rows.{Keeps};
 ghost use Rattle.model.specs.Meaning.{means as model-means};
 ghost use Rattle.kinds.specs.Problems.{problem};
-ghost use Rattle.spaces.specs.Tops.{opened};
+ghost use Rattle.spaces.specs.Tops.{opened, base-table};
 ghost use Rattle.marking.specs.Marks.{marking, Sound, Rewinds, depth-over};
 ghost use Rattle.marking.specs.Laws.{marking-laws};
 use filtering::filter::Start;
@@ -69,7 +70,8 @@ impl<'m, T: DomainTable, K: Kinds> Marking<'m, T, K> {
 
     // The table and the kinds, as they stand: without a run the table is the base.
     pub fn into_parts(self) -> (T, K)
-        ensures { λ r. ⌜ (r .0 ≡ self .entry .table) × (r .1 ≡ self .entry .kinds) ⌝ }
+        ensures parts { λ r. ⌜ (r .0 ≡ self .entry .table) × (r .1 ≡ self .entry .kinds) ⌝ }
+        ensures base { λ r. ⌜ (marking (K·Kinds .demands) (model-means (now (self .entry .model))) (T·DomainTable .means (self .entry .table)) (self .entry .run) (self .entry .alive) (self .entry .count) (self .entry .choices) .pile ≡ [] → T·DomainTable .means (r .0) ≡ base-table (marking (K·Kinds .demands) (model-means (now (self .entry .model))) (T·DomainTable .means (self .entry .table)) (self .entry .run) (self .entry .alive) (self .entry .count) (self .entry .choices))) ⌝ }
     {
         let Marking {
             table,

@@ -26,7 +26,7 @@ use Rattle.kinds.specs.Problems.{problem}
 use Rattle.filtering.specs.Filters.{Filters, Begins}
 use Rattle.filtering.specs.declared.filter.Start.the-variants.{Changed}
 use Rattle.spaces.specs.Pile.{SpaceState, piled, Ready, Stands}
-use Rattle.spaces.specs.Tops.{shown, stacked}
+use Rattle.spaces.specs.Tops.{shown, stacked, base-table}
 use Rattle.spaces.specs.Calls.{Puts, Enters, Takes, Turns, Leaves, leaves, of-top}
 use Rattle.spaces.specs.declared.space.SpaceFault.{SpaceFault}
 use Rattle.spaces.specs.declared.space.SpaceFault.the-variants.{Busy, Failed, Table as Passed}
@@ -313,3 +313,8 @@ module _ (D : Demands) (m : Value) where
           ap (λ (q : TableState). recomputing D m q false 0 path) s,
           subst (λ (q : TableState). Sound Part D m q false alive0 0 0 path) (sym s) (record { part = part; lawful = sd .lawful; few = sd .few; sized = sd .sized; within = omega arith; counted = refl; most = omega arith; runs = refl }),
         )
+
+-- without a run the table is the base
+pub given-back : (D : Demands) (m : Value) (t : TableState) (run : Bool) (k : ℕ) (path : List Step) → pile-of run (problem D m (t .width)) (base-of run t) (steps path k) ≡ [] → t ≡ base-table (recomputing D m t run k path)
+given-back D m t false k path e = refl
+given-back D m t true k path e = absurd (let z : _≡_ {A = ℕ} 0 1 = cc in omega arith)

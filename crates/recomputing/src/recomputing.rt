@@ -1,8 +1,9 @@
 ghost use mathlib.Core.Path.{_≡_};
+ghost use mathlib.Core.List.{[]};
 ghost use denote.Ref.{now};
 ghost use Rattle.model.specs.Meaning.{means as model-means};
 ghost use Rattle.kinds.specs.Problems.{problem};
-ghost use Rattle.spaces.specs.Tops.{opened};
+ghost use Rattle.spaces.specs.Tops.{opened, base-table};
 ghost use Rattle.recomputing.specs.Recomputed.{recomputing, Sound, depth-over};
 ghost use Rattle.recomputing.specs.Laws.{recomputing-laws};
 use crate::path::Step;
@@ -67,7 +68,8 @@ impl<'m, T: DomainTable, K: Kinds> Recomputing<'m, T, K> {
 
     // The table and the kinds, as they stand: without a run the table is the base.
     pub fn into_parts(self) -> (T, K)
-        ensures { λ r. ⌜ (r .0 ≡ self .entry .table) × (r .1 ≡ self .entry .kinds) ⌝ }
+        ensures parts { λ r. ⌜ (r .0 ≡ self .entry .table) × (r .1 ≡ self .entry .kinds) ⌝ }
+        ensures base { λ r. ⌜ (recomputing (K·Kinds .demands) (model-means (now (self .entry .model))) (T·DomainTable .means (self .entry .table)) (self .entry .run) (self .entry .count) (self .entry .path) .pile ≡ [] → T·DomainTable .means (r .0) ≡ base-table (recomputing (K·Kinds .demands) (model-means (now (self .entry .model))) (T·DomainTable .means (self .entry .table)) (self .entry .run) (self .entry .count) (self .entry .path))) ⌝ }
     {
         let Recomputing {
             table,
@@ -213,11 +215,8 @@ pub impl<'m, T: DomainTable, K: Kinds> Space for Recomputing<'m, T, K> as Recomp
     }
 
     fn nodes(&self) -> usize {
-        if self.run {
-            self.takes.saturating_add(1)
-        } else {
-            0
-        }
+        let nodes = self.takes.saturating_add(1);
+        if self.run { nodes } else { 0 }
     }
 
     fn has(&self, x: usize, v: u8) -> Result<bool, SpaceFault> {
