@@ -1,5 +1,8 @@
 // Worked cases in one list, each named by what it shows. `cases_hold` has all of them computed from the definitions, and the crate
 // `cases_tests` runs all of them on the code.
+
+#![tactic(auto)]
+
 ghost use Rattle.std.specs.Prelude.{◌≡◌, true};
 ghost use Rattle.cases.specs.Claims.{claimed};
 ghost use Rattle.cases.specs.Cases.{cases, claims, all_hold};

@@ -1,4 +1,7 @@
 // Runs every case of the list on the code. All of it is test code, so that it is proved once.
+
+#![tactic(auto)]
+
 #[cfg(test)]
 mod boards;
 #[cfg(test)]

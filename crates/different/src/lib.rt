@@ -1,2 +1,4 @@
+#![tactic(auto)]
+
 mod expel;
 pub mod kind;

@@ -1,2 +1,4 @@
+#![tactic(auto)]
+
 pub mod filter;
 pub mod list;

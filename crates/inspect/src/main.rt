@@ -1,3 +1,5 @@
+#![tactic(auto)]
+
 use model::model::Model;
 use model::model::calls::Constraint;
 use model::values::Term;

@@ -13,7 +13,7 @@ use Rattle.model.specs.Values.{Value, Record, at_most, different, names, entries
 use Rattle.model.specs.Reading.{among, is_named_once, with_record}
 use Rattle.model.specs.Drafts.{stored_record, drafted, does_name, is_placed, are_placed, none, blank, Long, Noted, Tidy}
 use Rattle.std.proofs.ByRecursion.{All-weaker}
-use Rattle.std.specs.List.{AllByRecursion as All}
+use Rattle.std.specs.List.{AllByRecursion}
 use Rattle.model.proofs.Entries.{named-below}
 use Rattle.model.proofs.Layouts.{all_entries_more}
 
@@ -113,7 +113,7 @@ module _ (d : Draft) (r : Record) (s : Stored) (next : Draft) (t : Tidy d) (a : 
   }
 
 -- the variables of a record have their sets
-pub variables-below : (d : Draft) (xs : List ℕ) → Tidy d → is_named_once d.variables xs ≡ true → All (λ x. x < length d.naming) xs
+pub variables-below : (d : Draft) (xs : List ℕ) → Tidy d → is_named_once d.variables xs ≡ true → AllByRecursion (λ x. x < length d.naming) xs
 variables-below d xs t e = All-weaker (λ x. x < d.variables) (λ x. x < length d.naming) (λ x l. omega (arith, t.variables, t.long.4)) xs (named-below d.variables xs e).0
 
 pub blank-tidy : Tidy blank

@@ -4,7 +4,7 @@ use borrow.Author.Gap.{read_sfits}
 use Rattle.std.proofs.lemmas.List.{drop-drop}
 use Rattle.std.proofs.lemmas.Int.{to_z-of_z, of_z-to_z}
 use Rattle.std.proofs.lemmas.Bool.{and_parts, and_from, or_parts, or_from, not-true, not_from_false, ltb-true, lt-ltb, eqb-false, ne_eqb, leb-true, le-leb}
-use Rattle.std.specs.List.{flat_map, AllByRecursion as All}
+use Rattle.std.specs.List.{flat_map, AllByRecursion}
 use Rattle.model.specs.declared.values.Window.{Window}
 use Rattle.model.specs.declared.values.Term.{Term}
 use Rattle.model.specs.Values.{Distinct, WindowValid}
@@ -67,7 +67,7 @@ length-window_bytes (w ∷ ws) = omega (arith, length-window_bytes ws)
 
 -- terms
 
-pub terms-read : (ts : List Term) (rest : List ℕ) → All (λ t. SFits w16 t.coefficient) ts → terms_in (length ts) (flat_map term_bytes ts ++ rest) ≡ ts
+pub terms-read : (ts : List Term) (rest : List ℕ) → AllByRecursion (λ t. SFits w16 t.coefficient) ts → terms_in (length ts) (flat_map term_bytes ts ++ rest) ≡ ts
 terms-read [] rest f = refl
 terms-read (t ∷ ts) rest f =
     let e : to_z w16 (of_z w16 t.coefficient % 256 + 256 * (of_z w16 t.coefficient / 256)) ≡ t.coefficient = ap (to_z w16) (two_read (of_z w16 t.coefficient)) ∙ to_z-of_z w16 t.coefficient f.0 in
@@ -89,7 +89,7 @@ pub length-term_bytes : (ts : List Term) → length (flat_map term_bytes ts) ≡
 length-term_bytes [] = refl
 length-term_bytes (t ∷ ts) = omega (arith, length-term_bytes ts)
 
-pub terms-sized : (n : ℕ) (bs : List ℕ) → All (λ t. SFits w16 t.coefficient) (terms_in n bs)
+pub terms-sized : (n : ℕ) (bs : List ℕ) → AllByRecursion (λ t. SFits w16 t.coefficient) (terms_in n bs)
 terms-sized zero bs = tt
 terms-sized (suc n) bs = (read_sfits w16 (word bs 1), terms-sized n (drop 3 bs))
 
@@ -111,26 +111,26 @@ listed_laid (suc n) (b ∷ bs) h = ap (λ (cs : List ℕ). b ∷ cs) (listed_lai
 
 -- tests and what they say
 
-pub windows-valid : (ws : List Window) → do_windows_fit ws ≡ true → All WindowValid ws
+pub windows-valid : (ws : List Window) → do_windows_fit ws ≡ true → AllByRecursion WindowValid ws
 windows-valid [] h = tt
 windows-valid (w ∷ ws) h =
     let p = and_parts (ltb w.low w.high && lib.Dec.leb w.high 64) (do_windows_fit ws) h in
     let q = and_parts (ltb w.low w.high) (lib.Dec.leb w.high 64) p.0 in
     (record { some = ltb-true w.low w.high q.0; most = leb-true w.high 64 q.1 }, windows-valid ws p.1)
 
-pub windows_pass : (ws : List Window) → All WindowValid ws → do_windows_fit ws ≡ true
+pub windows_pass : (ws : List Window) → AllByRecursion WindowValid ws → do_windows_fit ws ≡ true
 windows_pass [] v = refl
 windows_pass (w ∷ ws) v = and_from _ _ (and_from _ _ (lt-ltb w.low w.high v.0.some) (le-leb w.high 64 v.0.most)) (windows_pass ws v.1)
 
-not-among : (x : ℕ) (ys : List ℕ) → among x ys ≡ false → All (λ y. x ≢ y) ys
+not-among : (x : ℕ) (ys : List ℕ) → among x ys ≡ false → AllByRecursion (λ y. x ≢ y) ys
 not-among x [] h = tt
 not-among x (y ∷ ys) h = let p = or_parts (eqb x y) (among x ys) h in (eqb-false x y p.0, not-among x ys p.1)
 
-apart-among : (x : ℕ) (ys : List ℕ) → All (λ y. x ≢ y) ys → among x ys ≡ false
+apart-among : (x : ℕ) (ys : List ℕ) → AllByRecursion (λ y. x ≢ y) ys → among x ys ≡ false
 apart-among x [] a = refl
 apart-among x (y ∷ ys) a = or_from _ _ (ne_eqb x y a.0) (apart-among x ys a.1)
 
-pub named-below : (n : ℕ) (xs : List ℕ) → is_named_once n xs ≡ true → All (λ x. x < n) xs × Distinct xs
+pub named-below : (n : ℕ) (xs : List ℕ) → is_named_once n xs ≡ true → AllByRecursion (λ x. x < n) xs × Distinct xs
 named-below n [] h = (tt, tt)
 named-below n (x ∷ xs) h =
     let p = and_parts (ltb x n && not (among x xs)) (is_named_once n xs) h in
@@ -138,6 +138,6 @@ named-below n (x ∷ xs) h =
     let r = named-below n xs p.1 in
     ((ltb-true x n q.0, r.0), (not-among x xs (not-true (among x xs) q.1), r.1))
 
-pub named_pass : (n : ℕ) (xs : List ℕ) → All (λ x. x < n) xs → Distinct xs → is_named_once n xs ≡ true
+pub named_pass : (n : ℕ) (xs : List ℕ) → AllByRecursion (λ x. x < n) xs → Distinct xs → is_named_once n xs ≡ true
 named_pass n [] b d = refl
 named_pass n (x ∷ xs) b d = and_from _ _ (and_from _ _ (lt-ltb x n b.0) (not_from_false _ (apart-among x xs d.0))) (named_pass n xs b.1 d.1)

@@ -5,7 +5,7 @@ use Rattle.std.proofs.ByRecursion.{All-push, All-drop}
 use Rattle.std.proofs.lemmas.List.{append-nil, append_assoc, length-append, length-map, drop_at, flat_map_more}
 use Rattle.std.proofs.lemmas.Int.{to_z-of_z, of_z-to_z}
 use Rattle.std.proofs.lemmas.Bool.{and_parts, and_from, or_parts, or_from, not-false, not_from_true, ltb-false, le-ltb, leb-true, leb-false, le-leb, lt-leb, eqb-true, eq-eqb, true≢false}
-use Rattle.std.specs.List.{flat_map, AllByRecursion as All}
+use Rattle.std.specs.List.{flat_map, AllByRecursion}
 use Rattle.model.specs.declared.form.RecordKind.{RecordKind}
 use Rattle.model.specs.declared.form.RecordKind.TheVariants.{Windows, AtMost, Different}
 use Rattle.model.specs.declared.values.Window.{Window}
@@ -130,7 +130,7 @@ pub unroll : (fuel : ℕ) (m : Value) (at : ℕ) (left : List ℕ) → 1 ≤ len
 unroll fuel m at [] h = absurd (omega arith)
 unroll fuel m at (b ∷ bs) h = refl
 
-rest_accepted : (fuel : ℕ) (m : Value) (rs : List Record) (at : ℕ) → length (flat_map record_bytes rs) ≤ fuel → All (RecordValid (length m.windows)) rs → length m.records + length rs ≤ 64 → entries m.records + entries rs ≤ 1024 → read_rest fuel m at (flat_map record_bytes rs) ≡ accepted (record { windows = m.windows; records = m.records ++ rs })
+rest_accepted : (fuel : ℕ) (m : Value) (rs : List Record) (at : ℕ) → length (flat_map record_bytes rs) ≤ fuel → AllByRecursion (RecordValid (length m.windows)) rs → length m.records + length rs ≤ 64 → entries m.records + entries rs ≤ 1024 → read_rest fuel m at (flat_map record_bytes rs) ≡ accepted (record { windows = m.windows; records = m.records ++ rs })
 rest_accepted fuel m [] at f v few most = ap (λ (rs : List Record). accepted (record { windows = m.windows; records = rs })) (sym (append-nil m.records))
 rest_accepted zero m (r ∷ rs) at f v few most = absurd (omega (arith, f, length-append (record_bytes r) (flat_map record_bytes rs), record_some r))
 rest_accepted (suc fuel) m (r ∷ rs) at f v few most =
@@ -278,7 +278,7 @@ record_laid m left next o v e = let r = step-read false m left next e in go r.ki
           enough = omega (arith, n, k, f.enough);
           few = omega (arith, n, k, f.few);
           sized = (read_sfits w32 (long left 5), terms-sized (count left) (entry_bytes AtMost left));
-          below = subst (All (λ y. y < length m.windows)) (sym x) b.0;
+          below = subst (AllByRecursion (λ y. y < length m.windows)) (sym x) b.0;
           apart = subst Distinct (sym x) b.1;
         }
 

@@ -1,6 +1,6 @@
 -- What a model's place holds: its test, its records by number, and the sets of records.
 use Rattle.std.proofs.Common.{◌≡◌, ℕ, zero, suc, ◌+◌, ◌<◌, ◌≤◌, Bool, true, false, ◌&&◌, ◌||◌, eqb, ltb, leb, List, [], ◌∷◌, map, length, get_or, take, Some, None, sym, refl, ap, ◌∙◌, ap₂, arith}
-use Rattle.std.specs.List.{AllByRecursion as All, slice_get}
+use Rattle.std.specs.List.{AllByRecursion, slice_get}
 use Rattle.std.proofs.lemmas.List.{length-take-le, length-map, get_or-take, get_or-map}
 use Rattle.std.proofs.lemmas.Option.{slice_get-get_or, slice_get_past}
 use Rattle.std.proofs.lemmas.Bool.{and_parts, and_from, leb-true, le-leb, ltb-true, or_from, ne_eqb, not-true}
@@ -13,7 +13,7 @@ use Rattle.model.specs.Drafts.{stored_record, drafted, does_name, is_placed, are
 use Rattle.model.proofs.Drafting.{blank-tidy}
 use Rattle.model.proofs.Entries.{windows_pass, named_pass}
 
-records_pass : (n : ℕ) (rs : List Record) → All (RecordValid n) rs → do_records_fit n rs ≡ true
+records_pass : (n : ℕ) (rs : List Record) → AllByRecursion (RecordValid n) rs → do_records_fit n rs ≡ true
 records_pass n [] v = refl
 records_pass n (r ∷ rs) v = and_from _ _ (and_from _ _ (le-leb _ _ v.0.enough) (and_from _ _ (le-leb _ _ v.0.few) (named_pass n (names r) v.0.below v.0.apart))) (records_pass n rs v.1)
 

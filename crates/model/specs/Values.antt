@@ -1,7 +1,7 @@
 -- What a model is: a window of values for each variable, and constraint records. Assumes nothing.
 use Rattle.std.specs.Prelude.{◌≡◌, ℕ, ◌+◌, ◌<◌, ◌≤◌, Bool, true, false, not, ◌&&◌, ◌||◌, ◌≢◌, List, [], ◌∷◌, ◌++◌, map, length, ℤ, FitsSigned}
 use Rattle.std.specs.Int.{w16, w32}
-use Rattle.std.specs.List.{AllByRecursion as All}
+use Rattle.std.specs.List.{AllByRecursion}
 use Rattle.model.specs.declared.values.Window.{Window}
 use Rattle.model.specs.declared.values.Term.{Term}
 
@@ -28,7 +28,7 @@ entries (r ∷ rs) = length (names r) + entries rs
 -- No two are equal.
 abbrev pub Distinct : List ℕ → Type 0
 Distinct [] = Unit {0}
-Distinct (x ∷ xs) = All (λ y. x ≢ y) xs × Distinct xs
+Distinct (x ∷ xs) = AllByRecursion (λ y. x ≢ y) xs × Distinct xs
 
 -- The window holds a value, and none above 63.
 pub record WindowValid (w : Window) : Type 0 where
@@ -42,7 +42,7 @@ fewest (different xs) = 2
 
 -- The numbers of a record have room in its bytes.
 abbrev pub Sized : Record → Type 0
-Sized (at_most bound terms) = FitsSigned w32 bound × All (λ t. FitsSigned w16 t.coefficient) terms
+Sized (at_most bound terms) = FitsSigned w32 bound × AllByRecursion (λ t. FitsSigned w16 t.coefficient) terms
 Sized (different xs) = Unit {0}
 
 -- A record over n variables names only those, and none twice.
@@ -50,13 +50,13 @@ pub record RecordValid (n : ℕ) (r : Record) : Type 0 where
   pub enough : fewest r ≤ length (names r)
   pub few : length (names r) ≤ 64
   pub sized : Sized r
-  pub below : All (λ x. x < n) (names r)
+  pub below : AllByRecursion (λ x. x < n) (names r)
   pub apart : Distinct (names r)
 
 pub record Valid (m : Value) : Type 0 where
   pub some_variable : 1 ≤ length m.windows
   pub few_variables : length m.windows ≤ 64
-  pub windows : All WindowValid m.windows
+  pub windows : AllByRecursion WindowValid m.windows
   pub few_records : length m.records ≤ 64
   pub few_entries : entries m.records ≤ 1024
-  pub records : All (RecordValid (length m.windows)) m.records
+  pub records : AllByRecursion (RecordValid (length m.windows)) m.records

@@ -1,5 +1,5 @@
 ghost use Rattle.std.specs.Prelude.{◌≡◌, ℕ, ◌+◌, ◌*◌, ◌<◌, ◌≤◌, ◌&&◌, ◌||◌, List, ◌++◌, length, take, drop, nat_eq, slice_index_or};
-ghost use Rattle.std.specs.List.{AllByRecursion as All};
+ghost use Rattle.std.specs.List.{AllByRecursion};
 ghost use Rattle.bits.specs.Bit.{has};
 ghost use Rattle.model.specs.Drafts.{none};
 ghost use Rattle.model.specs.Reading.{entries_in, window_at, term_at, variable_at, variables_in, among};
@@ -92,7 +92,7 @@ pub(crate) fn note_names(
     each: usize,
     count: usize,
 )
-    requires { (at + each * count ≤ length bytes.now) × ((1 ≤ each) × ((«record» < 64) × (All (λ x. x < length naming.old) (variables_in each count (drop at bytes.now))))) }
+    requires { (at + each * count ≤ length bytes.now) × ((1 ≤ each) × ((«record» < 64) × (AllByRecursion (λ x. x < length naming.old) (variables_in each count (drop at bytes.now))))) }
     ensures { (x r : ℕ) → x < length naming.old → has (slice_index_or naming.new x none).word r ≡ (has (slice_index_or naming.old x none).word r || (nat_eq r «record» && among x (variables_in each count (drop at bytes.now)))) }
 {
     for i in 0..count {

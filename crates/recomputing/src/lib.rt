@@ -1,2 +1,4 @@
+#![tactic(auto)]
+
 mod path;
 pub mod recomputing;

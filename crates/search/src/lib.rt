@@ -1,2 +1,4 @@
+#![tactic(auto)]
+
 pub mod rule;
 pub mod search;

@@ -1,3 +1,5 @@
+#![tactic(auto)]
+
 pub mod ceiling;
 pub mod copying;
 mod opening;

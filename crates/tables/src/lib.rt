@@ -1,2 +1,4 @@
+#![tactic(auto)]
+
 pub mod table;
 pub mod words;

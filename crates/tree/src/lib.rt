@@ -1,5 +1,8 @@
 // The theory of trees and their plans: what tables, filtering, the tree and its plan list are stands in `specs/`. Each function here only
 // carries a theorem as its contract, so that the crate is not proved without it.
+
+#![tactic(auto)]
+
 ghost use Rattle.tree.specs.Theorems.{NodeIsOne, FilteredOnce, RulesChoose, TreeIsOne, TreeEnds, PlansAreAll, PlansInFront, AnswerIsOne, BudgetsGiveThePlans};
 ghost use Rattle.tree.specs.Examples.{ExamplesAreLawful, ExamplesCompute};
 

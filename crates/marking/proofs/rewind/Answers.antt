@@ -9,7 +9,7 @@ pub loop-mark-preserved : goal.loop-mark-preserved
 loop-mark-preserved g c = λ sd.
     let m = g.T.DomainTable.means in
     let i = c.loop-mark.invariant sd in
-    let h = c.in-ok-restore.ensures.does i.1 in
+    let h = c.in_ok-restore.ensures.does i.1 in
     (λ l. along_more (m c.args.table.now) (m c.loop-mark.table) (m c.restore.new.self) c.loop-mark.-mark (i.0 l) h.0, h.1)
 
 pub returns : goal.returns

@@ -9,34 +9,34 @@ use Rattle.atmost.proofs.Steps.{Main, main_none, main_trim, main_stable, room_ba
 use Rattle.kinds.proofs.Passing.{not_both, passed_still, passed_empty, passed_full}
 use Rattle.atmost.proofs.narrow.narrow.Goals as goal
 
-pub returns-in-default : goal.returns-in-default
-returns-in-default g c = λ sd.
+pub returns-in_default : goal.returns-in_default
+returns-in_default g c = λ sd.
     let s = g.T.DomainTable.means c.args.table.now in
     let A = demand_of stable meets s.width (at_most c.args.bound c.args.terms.now) in
-    let p = c.in-default.ensures.value sd in
+    let p = c.in_default.ensures.value sd in
     (λ n small. passed_still n A s (record { set = c.empty.result; failed = true }) p.0 c.empty.ensures refl p.1 p.2, sd)
 
 pub loop-k-init : goal.loop-k-init
 loop-k-init g c = λ sd. (λ n small live. main_none n c.args.terms.now (to_z w32 (of_z w32 c.args.bound)) (g.T.DomainTable.means c.args.table.now) c.empty-set.result c.empty-set.ensures, sd)
 
-pub returns-in-default-low : goal.returns-in-default-low
-returns-in-default-low g c = λ sd.
+pub returns-in_default-low : goal.returns-in_default-low
+returns-in_default-low g c = λ sd.
     let u = g.T.DomainTable.means c.loop-k.table in
     let ts = c.args.terms.now in
     let k = c.loop-k.k in
     let x = (term ts k).variable in
     let inv = c.loop-k.invariant sd in
     let live = (c.in-Some.ensures.value sd).0 in
-    (λ n small. absurd (not_both u.domains x ((inv.0 n small live).full x (live x (term-listed ts k c.loop-k-test.true))) (c.in-default-low.ensures.value inv.1)), inv.1)
+    (λ n small. absurd (not_both u.domains x ((inv.0 n small live).full x (live x (term-listed ts k c.loop-k-test.true))) (c.in_default-low.ensures.value inv.1)), inv.1)
 
-pub overflow-sub-total : goal.overflow-sub-total
-overflow-sub-total g c = rest_fits c.in-Some.total c.in-Some-low.part (c.in-Some.ensures.bound c.in-Some.total refl) (c.in-Some-low.ensures.bound c.in-Some-low.part refl)
+pub overflow_sub-total : goal.overflow_sub-total
+overflow_sub-total g c = rest_fits c.in-Some.total c.in-Some-low.part (c.in-Some.ensures.bound c.in-Some.total refl) (c.in-Some-low.ensures.bound c.in-Some-low.part refl)
 
-pub overflow-sub-from : goal.overflow-sub-from
-overflow-sub-from g c = room_fits c.in-Some.total c.in-Some-low.part (c.in-Some.ensures.bound c.in-Some.total refl) (c.in-Some-low.ensures.bound c.in-Some-low.part refl) c.args.bound c.from.result c.ranges.bound c.from.ensures
+pub overflow_sub-from : goal.overflow_sub-from
+overflow_sub-from g c = room_fits c.in-Some.total c.in-Some-low.part (c.in-Some.ensures.bound c.in-Some.total refl) (c.in-Some-low.ensures.bound c.in-Some-low.part refl) c.args.bound c.from.result c.ranges.bound c.from.ensures
 
-pub returns-in-err-shrunk : goal.returns-in-err-shrunk
-returns-in-err-shrunk g c = λ sd.
+pub returns-in_err-shrunk : goal.returns-in_err-shrunk
+returns-in_err-shrunk g c = λ sd.
     let s = g.T.DomainTable.means c.args.table.now in
     let u = g.T.DomainTable.means c.loop-k.table in
     let ts = c.args.terms.now in
@@ -53,7 +53,7 @@ returns-in-err-shrunk g c = λ sd.
     let is = room_is total part (c.in-Some.ensures.bound total refl) (c.in-Some-low.ensures.bound part refl) b c.from.result c.ranges.bound c.from.ensures in
     let bs = g.T.DomainTable.bounded c.args.table.now sd in
     let bu = g.T.DomainTable.bounded c.loop-k.table inv.1 in
-    let did = c.in-err-shrunk.ensures inv.1 in (
+    let did = c.in_err-shrunk.ensures inv.1 in (
       λ n small.
           let m = subst (λ (y : ℤ). Main n ts y s k set u) (to_z-of_z w32 b c.ranges.bound) (inv.0 n small whole.0) in
           let room = room_of n ts b s k set u total part _ m whole.1 own.1 is in
@@ -81,13 +81,13 @@ returns-then-shrunk g c = λ sd.
     let is = room_is total part (c.in-Some.ensures.bound total refl) (c.in-Some-low.ensures.bound part refl) b c.from.result c.ranges.bound c.from.ensures in
     let bs = g.T.DomainTable.bounded c.args.table.now sd in
     let bu = g.T.DomainTable.bounded c.loop-k.table inv.1 in
-    let did = c.in-ok-shrunk.ensures inv.1 in (
+    let did = c.in_ok-shrunk.ensures inv.1 in (
       λ n small.
           let m = subst (λ (y : ℤ). Main n ts y s k set u) (to_z-of_z w32 b c.ranges.bound) (inv.0 n small whole.0) in
           let room = room_of n ts b s k set u total part _ m whole.1 own.1 is in
           let bar = room_barred n ts b s k set u _ bs l small m own.0 room in
           let e = did.0 n A s (term-listed ts k l) (bu.within (term ts k).variable own.0.0 own.0.1).0 bar m.sofar in
-          passed_empty n A s c.in-ok-shrunk.shrunk z (term ts k).variable e.sofar whole.0 c.if-shrunk.true (term-listed ts k l) (e.empty c.if-shrunk.true) (λ y ay d. e.apart y d (m.full y (whole.0 y ay))),
+          passed_empty n A s c.in_ok-shrunk.shrunk z (term ts k).variable e.sofar whole.0 c.if-shrunk.true (term-listed ts k l) (e.empty c.if-shrunk.true) (λ y ay d. e.apart y d (m.full y (whole.0 y ay))),
       did.1,
     )
 
@@ -110,8 +110,8 @@ loop-k-preserved g c = λ sd.
     let is = room_is total part (c.in-Some.ensures.bound total refl) (c.in-Some-low.ensures.bound part refl) b c.from.result c.ranges.bound c.from.ensures in
     let bs = g.T.DomainTable.bounded c.args.table.now sd in
     let bu = g.T.DomainTable.bounded c.loop-k.table inv.1 in
-    let did = c.in-ok-shrunk.ensures inv.1 in
-    let r = c.in-ok-shrunk.shrunk in (
+    let did = c.in_ok-shrunk.ensures inv.1 in
+    let r = c.in_ok-shrunk.shrunk in (
       λ n small live.
           let m = subst (λ (y : ℤ). Main n ts y s k set u) (to_z-of_z w32 b c.ranges.bound) (inv.0 n small live) in
           let room = room_of n ts b s k set u total part _ m whole.1 own.1 is in

@@ -7,14 +7,14 @@ use Rattle.atmost.specs.Laws.{term-listed}
 use Rattle.atmost.proofs.Parts.{none-some, plus, small-fits, small_more, sum_fits, some_same, lows_more, listed_more, take_whole}
 use Rattle.atmost.proofs.narrow.total.Goals as goal
 
-pub returns-in-default : goal.returns-in-default
-returns-in-default g c = record {
-  value = λ sd. ((term c.args.terms.now c.loop-k.k).variable, term-listed c.args.terms.now c.loop-k.k c.loop-k-test.true, c.in-default.ensures.value sd);
+pub returns-in_default : goal.returns-in_default
+returns-in_default g c = record {
+  value = λ sd. ((term c.args.terms.now c.loop-k.k).variable, term-listed c.args.terms.now c.loop-k.k c.loop-k-test.true, c.in_default.ensures.value sd);
   bound = λ z e. absurd (none-some z e);
 }
 
-pub overflow-add-sum : goal.overflow-add-sum
-overflow-add-sum g c =
+pub overflow_add-sum : goal.overflow_add-sum
+overflow_add-sum g c =
     let k = c.loop-k.k in
     let sum = c.loop-k.sum in
     let part = c.in-Some.part in

@@ -12,21 +12,21 @@ use Rattle.atmost.proofs.narrow.trim.Goals as goal
 pub loop-turn-init : goal.loop-turn-init
 loop-turn-init g c = λ sd. (λ n A s nm lt bar so. going_none n A s c.args.term (g.T.DomainTable.means c.args.table.now) c.args.set (g.T.DomainTable.bounded c.args.table.now sd) so, sd)
 
-pub returns-in-err-v : goal.returns-in-err-v
-returns-in-err-v g c = λ sd.
+pub returns-in_err-v : goal.returns-in_err-v
+returns-in_err-v g c = λ sd.
     let inv = c.loop-turn.invariant sd in (
       λ n A s nm lt bar so.
           let go = inv.0 n A s nm lt (subst (Barred n A s c.args.term) (sym (to_z-of_z w64 c.args.room c.ranges.room)) bar) so in
-          let far = end_err (g.T.DomainTable.means c.loop-turn.table) c.args.term.variable (le_z (pos 0) (to_z w16 (of_z w16 c.args.term.coefficient))) c.in-err-v.field-0.0 (c.in-err-v.ensures inv.1) in
+          let far = end_err (g.T.DomainTable.means c.loop-turn.table) c.args.term.variable (le_z (pos 0) (to_z w16 (of_z w16 c.args.term.coefficient))) c.in_err-v.field-0.0 (c.in_err-v.ensures inv.1) in
           absurd (omega (arith, far, lt, go.variables)),
       inv.1,
     )
 
-pub returns-in-default : goal.returns-in-default
-returns-in-default g c = λ sd.
+pub returns-in_default : goal.returns-in_default
+returns-in_default g c = λ sd.
     let inv = c.loop-turn.invariant sd in
     let u = g.T.DomainTable.means c.loop-turn.table in
-    let none = end_none u c.args.term.variable (le_z (pos 0) (to_z w16 (of_z w16 c.args.term.coefficient))) c.in-ok-v.field-0 c.in-default.is (c.in-ok-v.ensures inv.1) in (
+    let none = end_none u c.args.term.variable (le_z (pos 0) (to_z w16 (of_z w16 c.args.term.coefficient))) c.in_ok-v.field-0 c.in_default.is (c.in_ok-v.ensures inv.1) in (
       λ n A s nm lt bar so.
           let go = inv.0 n A s nm lt (subst (Barred n A s c.args.term) (sym (to_z-of_z w64 c.args.room c.ranges.room)) bar) so in
           trim_empty n A s c.args.term c.args.room (g.T.DomainTable.means c.args.table.now) c.loop-turn.-turn c.loop-turn.found u go none,
@@ -43,23 +43,23 @@ returns-then-from-room g c = λ sd.
     let l : v < 256 = search rules in
     let is = product a c.from.result c.from-in-loop-turn.result v f l c.from.ensures c.from-in-loop-turn.ensures in
     let test : le_z (a *ℤ pos v) c.args.room ≡ true = sym (ap₂ le_z is (to_z-of_z w64 c.args.room c.ranges.room)) ∙ c.if-from-room.true in
-    let end = end-some u c.args.term.variable a (to_z w16 (of_z w16 a)) c.in-ok-v.field-0 v (to_z-of_z w16 a f) c.in-Some.is (c.in-ok-v.ensures inv.1) in (
+    let end = end-some u c.args.term.variable a (to_z w16 (of_z w16 a)) c.in_ok-v.field-0 v (to_z-of_z w16 a f) c.in-Some.is (c.in_ok-v.ensures inv.1) in (
       λ n A s nm lt bar so.
           let go = inv.0 n A s nm lt (subst (Barred n A s c.args.term) (sym (to_z-of_z w64 c.args.room c.ranges.room)) bar) so in
           trim_ends n A s c.args.term c.args.room (g.T.DomainTable.means c.args.table.now) c.loop-turn.-turn c.loop-turn.found u go v end (omega (arith, ints)),
       inv.1,
     )
 
-pub returns-in-err-drop : goal.returns-in-err-drop
-returns-in-err-drop g c = λ sd.
+pub returns-in_err-drop : goal.returns-in_err-drop
+returns-in_err-drop g c = λ sd.
     let inv = c.loop-turn.invariant sd in
     let u = g.T.DomainTable.means c.loop-turn.table in
     let a = c.args.term.coefficient in
     let v = c.in-Some.v in
     let f : SFits w16 a = search rules in
-    let end = end-some u c.args.term.variable a (to_z w16 (of_z w16 a)) c.in-ok-v.field-0 v (to_z-of_z w16 a f) c.in-Some.is (c.in-ok-v.ensures inv.1) in
+    let end = end-some u c.args.term.variable a (to_z w16 (of_z w16 a)) c.in_ok-v.field-0 v (to_z-of_z w16 a f) c.in-Some.is (c.in_ok-v.ensures inv.1) in
     let in-it = (g.T.DomainTable.bounded c.loop-turn.table inv.1).within c.args.term.variable v (end-here u c.args.term.variable (upward a) v end) in
-    let did = c.in-err-drop.ensures.does inv.1 in
+    let did = c.in_err-drop.ensures.does inv.1 in
     (λ n A s nm lt bar so. absurd (⊎_elim (λ h. omega (arith, h, in-it.0)) (λ h. omega (arith, h, in-it.1)) did.0.0), did.1)
 
 pub loop-turn-preserved : goal.loop-turn-preserved
@@ -74,8 +74,8 @@ loop-turn-preserved g c = λ sd.
     let l : v < 256 = search rules in
     let is = product a c.from.result c.from-in-loop-turn.result v f l c.from.ensures c.from-in-loop-turn.ensures in
     let test : le_z (a *ℤ pos v) c.args.room ≡ false = sym (ap₂ le_z is (to_z-of_z w64 c.args.room c.ranges.room)) ∙ c.if-from-room.false in
-    let end = end-some u x a (to_z w16 (of_z w16 a)) c.in-ok-v.field-0 v (to_z-of_z w16 a f) c.in-Some.is (c.in-ok-v.ensures inv.1) in
-    let did = c.in-ok-drop.ensures.does inv.1 in
+    let end = end-some u x a (to_z w16 (of_z w16 a)) c.in_ok-v.field-0 v (to_z-of_z w16 a f) c.in-Some.is (c.in_ok-v.ensures inv.1) in
+    let did = c.in_ok-drop.ensures.does inv.1 in
     let found = c.loop-turn.found in
     let more = c.with-found.result in
     let few = (g.T.DomainTable.bounded c.args.table.now sd).few in (

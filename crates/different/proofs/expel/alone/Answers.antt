@@ -8,6 +8,6 @@ returns-else-low-high g c = λ sd v h.
     let s = g.T.DomainTable.means c.args.table.now in
     let low = c.in-Some.low in
     let high = c.in-Some-2.high in
-    let is-low = least-some s c.args.x c.in-ok-low.field-0 low c.in-Some.is (c.in-ok-low.ensures sd) in
-    let is-high = greatest-some s c.args.x c.in-ok-high.field-0 high c.in-Some-2.is (c.in-ok-high.ensures sd) in
+    let is-low = least-some s c.args.x c.in_ok-low.field-0 low c.in-Some.is (c.in_ok-low.ensures sd) in
+    let is-high = greatest-some s c.args.x c.in_ok-high.field-0 high c.in-Some-2.is (c.in_ok-high.ensures sd) in
     ⊎_elim (λ q. (high, is-high, λ e. c.if-low-high.false (sym q ∙ sym e))) (λ d. (low, is-low, λ e. d (sym e))) (cases_eq v low)

@@ -10,15 +10,15 @@ use Rattle.different.specs.Lists.{at-among, among-at}
 use Rattle.different.proofs.Steps.{Going, going_none, going_skip, going_drop, others_live}
 use Rattle.kinds.proofs.Passing.{sofar-drop, drop-none}
 use Rattle.different.proofs.expel.expel.Goals as goal
-use Rattle.different.proofs.expel.expel.Goals.{then-y-x+in-ok-drop+then-branch+else-not-lives, then-y-x+in-ok-drop+else-branch, else-y-x}
+use Rattle.different.proofs.expel.expel.Goals.{then-y-x+in_ok-drop+then-branch+else-not-lives, then-y-x+in_ok-drop+else-branch, else-y-x}
 
 pub loop-k-init : goal.loop-k-init
 loop-k-init g c = λ sd. (λ n A s ls lt bar so. going_none n A s _ _ _ _ _ so, sd)
 
-pub returns-in-err-drop : goal.returns-in-err-drop
-returns-in-err-drop g c = λ sd.
+pub returns-in_err-drop : goal.returns-in_err-drop
+returns-in_err-drop g c = λ sd.
     let inv = c.loop-k.invariant sd in
-    let did = c.in-err-drop.ensures.does inv.1 in
+    let did = c.in_err-drop.ensures.does inv.1 in
     let xs = c.args.listed.now in
     let y = get_or xs c.loop-k.k 0 in (
       λ n A s ls lt bar so.
@@ -31,7 +31,7 @@ pub returns-then-not-lives : goal.returns-then-not-lives
 returns-then-not-lives g c = λ sd.
     let means = g.T.DomainTable.means in
     let inv = c.loop-k.invariant sd in
-    let did = c.in-ok-drop.ensures.does inv.1 in
+    let did = c.in_ok-drop.ensures.does inv.1 in
     let xs = c.args.listed.now in
     let y = get_or xs c.loop-k.k 0 in
     let ay = at-among xs c.loop-k.k c.loop-k-test.true in
@@ -67,8 +67,8 @@ loop-k-preserved g c = λ sd.
     let Goal : Set → g.row.T.Denot → Type 0 = λ f z.
     ((n : ℕ) (A : Demand) (s : TableState) → Lists A xs t → v < t.width → Barred n A s xs x v → Sofar n A s c.args.set t → Going n A s xs x v t (k + 1) f (means z)) × g.T.DomainTable.sound z in
     elim c.if-y-x.branch [
-      | then-y-x+in-ok-drop+then-branch+else-not-lives w ↦
-          let did = w.in-ok-drop.ensures.does inv.1 in
+      | then-y-x+in_ok-drop+then-branch+else-not-lives w ↦
+          let did = w.in_ok-drop.ensures.does inv.1 in
           let z = means w.drop.new.self in
           let more = w.with-found.result in
           subst (λ (f : Set). Goal f c.if-y-x.table) (sym w.found-is) (subst (Goal more) (sym w.table-is) (
@@ -79,8 +79,8 @@ loop-k-preserved g c = λ sd.
                 going_drop n A s xs x v t k y found more u z go sofar did.0.2 (w.if-not-lives.ensures did.1) (grown y ∙ or_right (has found.word y) (eqb y y) (eq-eqb y y refl)),
             did.1,
           ))
-      | then-y-x+in-ok-drop+else-branch w ↦
-          let did = w.in-ok-drop.ensures.does inv.1 in
+      | then-y-x+in_ok-drop+else-branch w ↦
+          let did = w.in_ok-drop.ensures.does inv.1 in
           let z = means w.drop.new.self in
           let out = sym did.0.3 ∙ w.if-branch.false in
           subst (λ (f : Set). Goal f c.if-y-x.table) (sym w.found-is) (subst (Goal found) (sym w.table-is) (

@@ -12,7 +12,7 @@ use Rattle.different.specs.Expels.{Lists}
 use Rattle.different.specs.Lists.{at-among, among-at}
 use Rattle.different.proofs.Steps.{Main, main_none, main_skip, main_expel, barred, all_clear, crowds_some, crowds_none, seen_none, seen_more}
 use Rattle.different.proofs.expel.separate.Goals as goal
-use Rattle.different.proofs.expel.separate.Goals.{in-Some+in-ok-shrunk+else-shrunk, in-default}
+use Rattle.different.proofs.expel.separate.Goals.{in-Some+in_ok-shrunk+else-shrunk, in_default}
 
 -- all listed variables have a value
 living : (xs : List ℕ) (s : TableState) (k : ℕ) → length xs ≤ k → ((j : ℕ) → j < k → Alive s.domains (get_or xs j 0)) → (x : ℕ) → among x xs ≡ true → Alive s.domains x
@@ -22,11 +22,11 @@ living xs s k l f x ax = let i = among-at xs x ax in subst (Alive s.domains) i.2
 lists : (xs : List ℕ) (s u : TableState) → Bounds s → u.variables ≡ s.variables → ((x : ℕ) → among x xs ≡ true → Alive s.domains x) → Lists (demand_of stable meets s.width (different xs)) xs u
 lists xs s u b e f = record { names = λ y. refl; there = λ y ay. let a = f y ay in omega (arith, (b.within y a.0 a.1).0, e) }
 
-pub returns-then-is-empty : goal.returns-then-is-empty
-returns-then-is-empty g c = λ sd.
+pub returns-then-is_empty : goal.returns-then-is_empty
+returns-then-is_empty g c = λ sd.
     let s = g.T.DomainTable.means c.args.table.now in
     let xs = c.args.listed.now in
-    (λ n small. passed_still n (demand_of stable meets s.width (different xs)) s (record { set = c.empty.result; failed = true }) (get_or xs c.loop-k.k 0) c.empty.ensures refl (at-among xs c.loop-k.k c.loop-k-test.true) (λ v. ap (λ (d : ℕ → Bool). d v) (sym (c.held-domain.ensures sd)) ∙ c.if-is-empty.ensures.none refl v), sd)
+    (λ n small. passed_still n (demand_of stable meets s.width (different xs)) s (record { set = c.empty.result; failed = true }) (get_or xs c.loop-k.k 0) c.empty.ensures refl (at-among xs c.loop-k.k c.loop-k-test.true) (λ v. ap (λ (d : ℕ → Bool). d v) (sym (c.held-domain.ensures sd)) ∙ c.if-is_empty.ensures.none refl v), sd)
 
 pub loop-k-init : goal.loop-k-init
 loop-k-init g c = λ sd. seen_none (g.T.DomainTable.means c.args.table.now) c.args.listed.now _ _
@@ -36,7 +36,7 @@ loop-k-preserved g c = λ sd.
     let s = g.T.DomainTable.means c.args.table.now in
     let domain = has c.held-domain.result.word in
     let is = c.held-domain.ensures sd in
-    let some = c.if-is-empty.ensures.some refl in
+    let some = c.if-is_empty.ensures.some refl in
     seen_more s c.args.listed.now c.loop-k.k (has c.loop-k.once.word) (has c.loop-k.twice.word) domain (has c.union-once.result.word) (has c.union-twice.result.word) (c.loop-k.invariant sd) is
     (some.0, ap (λ (d : ℕ → Bool). d some.0) (sym is) ∙ some.1) c.union-once.ensures
     (λ v. c.union-twice.ensures v ∙ ap (λ (b : Bool). has c.loop-k.twice.word v || b) (c.common.ensures v))
@@ -63,11 +63,11 @@ loop-k-2-preserved g c = λ sd.
     let Goal : Set → g.row.T.Denot → Type 0 = λ f z.
     ((n : ℕ) → ((x : ℕ) → among x xs ≡ true → x < n) → ((x : ℕ) → among x xs ≡ true → Alive s.domains x) → Main n A s xs (k + 1) f (means z)) × g.T.DomainTable.sound z in
     elim c.match-branch-2.branch [
-      | in-Some+in-ok-shrunk+else-shrunk w ↦
+      | in-Some+in_ok-shrunk+else-shrunk w ↦
           let v = w.in-Some.v in
-          let al = crowds_some t x (has c.loop-k.twice.word) c.in-ok-v.field-0 v w.in-Some.is (c.in-ok-v.ensures inv.1) in
-          let did = w.in-ok-shrunk.ensures inv.1 in
-          let r = w.in-ok-shrunk.shrunk in
+          let al = crowds_some t x (has c.loop-k.twice.word) c.in_ok-v.field-0 v w.in-Some.is (c.in_ok-v.ensures inv.1) in
+          let did = w.in_ok-shrunk.ensures inv.1 in
+          let r = w.in_ok-shrunk.shrunk in
           let width = ((g.T.DomainTable.bounded c.loop-k-2.table inv.1).within x v al.0).1 in
           subst (λ (f : Set). Goal f c.match-branch-2.table) (sym w.set-is) (subst (Goal r.set) (sym w.table-is) (
             λ n small live.
@@ -77,17 +77,17 @@ loop-k-2-preserved g c = λ sd.
                 (did.0 n A s (lists xs s t b same live) width (barred n s xs b set x v t small ax m.sofar al.1) m.sofar) w.if-shrunk.false,
             did.1,
           ))
-      | in-default w ↦
+      | in_default w ↦
           subst (λ (f : Set). Goal f c.match-branch-2.table) (sym w.set-is) (subst (Goal set) (sym w.table-is) (
             λ n small live.
                 let m = inv.0 n small live in
-                main_skip n A s xs k set t m (crowds_none s t x (has c.loop-k.once.word) (has c.loop-k.twice.word) c.in-ok-v.field-0 xs c.loop-k.k w.in-default.is (c.in-ok-v.ensures inv.1) (c.loop-k.invariant sd) c.loop-k-test.false ax m.sofar.narrows.inside),
+                main_skip n A s xs k set t m (crowds_none s t x (has c.loop-k.once.word) (has c.loop-k.twice.word) c.in_ok-v.field-0 xs c.loop-k.k w.in_default.is (c.in_ok-v.ensures inv.1) (c.loop-k.invariant sd) c.loop-k-test.false ax m.sofar.narrows.inside),
             inv.1,
           ))
     ]
 
-pub returns-in-err-v : goal.returns-in-err-v
-returns-in-err-v g c = λ sd.
+pub returns-in_err-v : goal.returns-in_err-v
+returns-in_err-v g c = λ sd.
     let means = g.T.DomainTable.means in
     let s = means c.args.table.now in
     let xs = c.args.listed.now in
@@ -99,12 +99,12 @@ returns-in-err-v g c = λ sd.
       λ n small.
           let m = inv.0 n small live in
           let same = ap (λ (z : TableState). z.variables) m.sofar.narrows.others in
-          absurd (omega (arith, c.in-err-v.ensures inv.1, (lists xs s t b same live).there (get_or xs k 0) (at-among xs k c.loop-k-2-test.true))),
+          absurd (omega (arith, c.in_err-v.ensures inv.1, (lists xs s t b same live).there (get_or xs k 0) (at-among xs k c.loop-k-2-test.true))),
       inv.1,
     )
 
-pub returns-in-err-shrunk : goal.returns-in-err-shrunk
-returns-in-err-shrunk g c = λ sd.
+pub returns-in_err-shrunk : goal.returns-in_err-shrunk
+returns-in_err-shrunk g c = λ sd.
     let means = g.T.DomainTable.means in
     let s = means c.args.table.now in
     let xs = c.args.listed.now in
@@ -116,8 +116,8 @@ returns-in-err-shrunk g c = λ sd.
     let v = c.in-Some.v in
     let live = living xs s c.loop-k.k c.loop-k-test.false (c.loop-k.invariant sd).live in
     let b = g.T.DomainTable.bounded c.args.table.now sd in
-    let al = crowds_some t x (has c.loop-k.twice.word) c.in-ok-v.field-0 v c.in-Some.is (c.in-ok-v.ensures inv.1) in
-    let did = c.in-err-shrunk.ensures inv.1 in
+    let al = crowds_some t x (has c.loop-k.twice.word) c.in_ok-v.field-0 v c.in-Some.is (c.in_ok-v.ensures inv.1) in
+    let did = c.in_err-shrunk.ensures inv.1 in
     let width = ((g.T.DomainTable.bounded c.loop-k-2.table inv.1).within x v al.0).1 in (
       λ n small.
           let m = inv.0 n small live in
@@ -140,15 +140,15 @@ returns-then-shrunk g c = λ sd.
     let v = c.in-Some.v in
     let live = living xs s c.loop-k.k c.loop-k-test.false (c.loop-k.invariant sd).live in
     let b = g.T.DomainTable.bounded c.args.table.now sd in
-    let al = crowds_some t x (has c.loop-k.twice.word) c.in-ok-v.field-0 v c.in-Some.is (c.in-ok-v.ensures inv.1) in
-    let did = c.in-ok-shrunk.ensures inv.1 in
+    let al = crowds_some t x (has c.loop-k.twice.word) c.in_ok-v.field-0 v c.in-Some.is (c.in_ok-v.ensures inv.1) in
+    let did = c.in_ok-shrunk.ensures inv.1 in
     let width = ((g.T.DomainTable.bounded c.loop-k-2.table inv.1).within x v al.0).1 in (
       λ n small.
           let m = inv.0 n small live in
           let same = ap (λ (z : TableState). z.variables) m.sofar.narrows.others in
           let e = did.0 n A s (lists xs s t b same live) width (barred n s xs b c.loop-k-2.set x v t small (at-among xs k c.loop-k-2-test.true) m.sofar al.1) m.sofar in
           let d = e.empty c.if-shrunk.true in
-          passed_empty n A s c.in-ok-shrunk.shrunk u d.0 e.sofar live c.if-shrunk.true d.1 d.2 (λ y ay ne. d.3 y ne (m.full y (live y ay))),
+          passed_empty n A s c.in_ok-shrunk.shrunk u d.0 e.sofar live c.if-shrunk.true d.1 d.2 (λ y ay ne. d.3 y ne (m.full y (live y ay))),
       did.1,
     )
 

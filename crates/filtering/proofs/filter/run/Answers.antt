@@ -9,7 +9,7 @@ use Rattle.filtering.specs.Waits.{queue, woken}
 use Rattle.filtering.specs.declared.list.WaitingList.{WaitingList}
 use Rattle.filtering.proofs.Rounds.{Mid, at_first, same_width, narrowed_none, narrowed_on, none_mid, some_mid, none-fits, done, filled_true, filled_false}
 use Rattle.filtering.proofs.filter.run.Goals as goal
-use Rattle.filtering.proofs.filter.run.Goals.{then-not-is-empty, else-not-is-empty}
+use Rattle.filtering.proofs.filter.run.Goals.{then-not-is_empty, else-not-is_empty}
 
 pub returns-then-not-branch : goal.returns-then-not-branch
 returns-then-not-branch g c = λ idle sd.
@@ -17,7 +17,7 @@ returns-then-not-branch g c = λ idle sd.
     let s = g.T.DomainTable.means c.args.table.now in
     let A = asks g.K.Kinds.demands (model-means m) s.width in
     let laws = model_laws g.K.Kinds.demands (model-means m) s.width g.met.K.Kinds.lawful m.valid in
-    let f = filled_false s c.in-ok-filled.field-0 c.if-not-branch.true (c.in-ok-filled.ensures sd) in (
+    let f = filled_false s c.in_ok-filled.field-0 c.if-not-branch.true (c.in_ok-filled.ensures sd) in (
       λ vs b.
           let l : f.0 < A.variables = omega (arith, f.1, vs) in
           (narrowed_none A laws s, none-fits A laws s s (narrowed_none A laws s) f.0 l f.2, (f.0, l, f.2)),
@@ -27,25 +27,25 @@ returns-then-not-branch g c = λ idle sd.
 pub loop-round-init : goal.loop-round-init
 loop-round-init g c = λ sd. (λ vs mid. mid, sd)
 
-pub returns-in-default : goal.returns-in-default
-returns-in-default g c = λ idle sd.
+pub returns-in_default : goal.returns-in_default
+returns-in_default g c = λ idle sd.
     let m = c.args.model.now in
     let s = g.T.DomainTable.means c.args.table.now in
     let t = g.T.DomainTable.means c.loop-round.table in
     let A = asks g.K.Kinds.demands (model-means m) s.width in
     let laws = model_laws g.K.Kinds.demands (model-means m) s.width g.met.K.Kinds.lawful m.valid in
-    let full = filled_true s c.in-ok-filled.field-0 c.if-not-branch.false (c.in-ok-filled.ensures sd) in
+    let full = filled_true s c.in_ok-filled.field-0 c.if-not-branch.false (c.in_ok-filled.ensures sd) in
     let inv = c.loop-round.invariant sd in (
       λ vs b.
           let mid0 = at_first A laws (records m) s c.args.start (has c.first.result.word) c.records-count.result c.args.list.now c.wake.new.list refl vs refl (g.T.DomainTable.bounded c.args.table.now sd) full b c.first.ensures c.records-count.ensures idle c.wake.ensures in
           let mid = inv.0 vs mid0 in
-          (mid.narrowed, done A laws s t c.loop-round.list c.loop-round.-round mid (c.in-default.ensures mid.orderly).0.0),
+          (mid.narrowed, done A laws s t c.loop-round.list c.loop-round.-round mid (c.in_default.ensures mid.orderly).0.0),
       inv.1,
     )
 
-pub returns-in-err-shrunk : goal.returns-in-err-shrunk
-returns-in-err-shrunk g c = λ idle sd.
-    let did = c.in-err-shrunk.ensures (c.loop-round.invariant sd).1 in
+pub returns-in_err-shrunk : goal.returns-in_err-shrunk
+returns-in_err-shrunk g c = λ idle sd.
+    let did = c.in_err-shrunk.ensures (c.loop-round.invariant sd).1 in
     (λ vs b. absurd did.0, did.1)
 
 pub returns-then-shrunk : goal.returns-then-shrunk
@@ -57,11 +57,11 @@ returns-then-shrunk g c = λ idle sd.
     let u = g.T.DomainTable.means c.pass.new.table in
     let A = asks D (model-means m) s.width in
     let laws = model_laws D (model-means m) s.width g.met.K.Kinds.lawful m.valid in
-    let full = filled_true s c.in-ok-filled.field-0 c.if-not-branch.false (c.in-ok-filled.ensures sd) in
+    let full = filled_true s c.in_ok-filled.field-0 c.if-not-branch.false (c.in_ok-filled.ensures sd) in
     let inv = c.loop-round.invariant sd in
     let item = c.in-Some.item in
-    let r = c.in-ok-shrunk.shrunk in
-    let did = c.in-ok-shrunk.ensures inv.1 in (
+    let r = c.in_ok-shrunk.shrunk in
+    let did = c.in_ok-shrunk.ensures inv.1 in (
       λ vs b.
           let mid0 = at_first A laws (records m) s c.args.start (has c.first.result.word) c.records-count.result c.args.list.now c.wake.new.list refl vs refl (g.T.DomainTable.bounded c.args.table.now sd) full b c.first.ensures c.records-count.ensures idle c.wake.ensures in
           let mid = inv.0 vs mid0 in
@@ -85,8 +85,8 @@ loop-round-preserved g c = λ sd.
     let laws = model_laws D (model-means m) s.width g.met.K.Kinds.lawful m.valid in
     let inv = c.loop-round.invariant sd in
     let item = c.in-Some.item in
-    let r = c.in-ok-shrunk.shrunk in
-    let did = c.in-ok-shrunk.ensures inv.1 in
+    let r = c.in_ok-shrunk.shrunk in
+    let did = c.in_ok-shrunk.ensures inv.1 in
     let bounds = g.T.DomainTable.bounded c.loop-round.table inv.1 in (
       λ vs mid0.
           let mid = inv.0 vs mid0 in
@@ -96,19 +96,19 @@ loop-round-preserved g c = λ sd.
           let k = c.pop.new.self in
           let round = c.loop-round.-round in
           let Goal : WaitingList → Type 0 = λ z. Mid A s u z (round + 1) in
-          elim c.if-not-is-empty.branch [
-            | then-not-is-empty w ↦
+          elim c.if-not-is_empty.branch [
+            | then-not-is_empty w ↦
                 let count = c.records-count.result in
-                let names = w.naming-some.ensures in
-                let woke = w.wake-then-not-is-empty.ensures pops.1 (omega (arith, c.records-count.ensures, laws.few)) in
-                let R = has w.naming-some.result.word in
+                let names = w.naming_some.ensures in
+                let woke = w.wake-then-not-is_empty.ensures pops.1 (omega (arith, c.records-count.ensures, laws.few)) in
+                let R = has w.naming_some.result.word in
                 subst Goal (sym w.list-is)
                 (some_mid A laws s t l k round item mid pops.0 u r p
-                (ap (λ (z : TableState). z.variables) mid.narrowed.others ∙ vs) (ap (λ (z : TableState). z.width) mid.narrowed.others) bounds (c.is-empty.ensures.some w.if-not-is-empty.true)
-                w.wake-then-not-is-empty.new.list R names.none c.if-shrunk.false
+                (ap (λ (z : TableState). z.variables) mid.narrowed.others ∙ vs) (ap (λ (z : TableState). z.width) mid.narrowed.others) bounds (c.is_empty.ensures.some w.if-not-is_empty.true)
+                w.wake-then-not-is_empty.new.list R names.none c.if-shrunk.false
                 (woke.0 ∙ ap (λ (j : ℕ). woken R j (queue k)) c.records-count.ensures) woke.1)
-            | else-not-is-empty w ↦
-                subst Goal (sym w.list-is) (none_mid A laws s t l k round item mid pops.0 u r p (c.is-empty.ensures.none w.if-not-is-empty.false) c.if-shrunk.false pops.1)
+            | else-not-is_empty w ↦
+                subst Goal (sym w.list-is) (none_mid A laws s t l k round item mid pops.0 u r p (c.is_empty.ensures.none w.if-not-is_empty.false) c.if-shrunk.false pops.1)
           ],
       did.1,
     )
@@ -119,7 +119,7 @@ returns g c = λ idle sd.
     let s = g.T.DomainTable.means c.args.table.now in
     let A = asks g.K.Kinds.demands (model-means m) s.width in
     let laws = model_laws g.K.Kinds.demands (model-means m) s.width g.met.K.Kinds.lawful m.valid in
-    let full = filled_true s c.in-ok-filled.field-0 c.if-not-branch.false (c.in-ok-filled.ensures sd) in
+    let full = filled_true s c.in_ok-filled.field-0 c.if-not-branch.false (c.in_ok-filled.ensures sd) in
     let inv = c.loop-round.invariant sd in (
       λ vs b.
           let mid0 = at_first A laws (records m) s c.args.start (has c.first.result.word) c.records-count.result c.args.list.now c.wake.new.list refl vs refl (g.T.DomainTable.bounded c.args.table.now sd) full b c.first.ensures c.records-count.ensures idle c.wake.ensures in

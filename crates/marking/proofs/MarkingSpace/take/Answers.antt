@@ -24,37 +24,37 @@ returns-then-count-ge-MOST g c =
     omega arith in
     record { does = λ sd. absurd (no_way sd); refused = λ sd. absurd (no_way sd) }
 
-pub returns-in-err-mark : goal.returns-in-err-mark
-returns-in-err-mark g c =
+pub returns-in_err-mark : goal.returns-in_err-mark
+returns-in_err-mark g c =
     let s = c.args.self.now in
     let D = g.K.Kinds.demands in
     let m = model-means s.model.now in
     let tm = g.T.DomainTable.means in
     let p = err_from_is_err_and c.from-residual.result c.from-residual.ensures.1 in
-    let same = c.in-err-mark.ensures.refused in
+    let same = c.in_err-mark.ensures.refused in
     rw (p.1, p.2) record {
       does = λ sd.
-          let h = c.in-err-mark.ensures.does sd.part in (
-            take_refused D m (g.T.DomainTable.sound s.table) (tm s.table) (tm c.mark.new.self) s.run s.alive s.count c.args.x c.args.v s.choices c.in-err-mark.field-0.0
+          let h = c.in_err-mark.ensures.does sd.part in (
+            take_refused D m (g.T.DomainTable.sound s.table) (tm s.table) (tm c.mark.new.self) s.run s.alive s.count c.args.x c.args.v s.choices c.in_err-mark.field-0.0
                 sd c.if-not-self.false c.if-not-self-2.false (c.chosen.ensures.yes sd.part c.if-not-chosen.false) h.0,
             subst (λ b. Sound (g.T.DomainTable.sound b) D m (tm b) s.run s.alive s.count s.choices) (sym same) sd,
           );
       refused = λ sd. ap (λ b. record { table = b; kinds = s.kinds; model = s.model; list = s.list; run = s.run; alive = s.alive; count = s.count; choices = s.choices }) same;
     }
 
-pub returns-in-err-self : goal.returns-in-err-self
-returns-in-err-self g c =
+pub returns-in_err-self : goal.returns-in_err-self
+returns-in_err-self g c =
     let s = c.args.self.now in
     let D = g.K.Kinds.demands in
     let m = model-means s.model.now in
     let tm = g.T.DomainTable.means in
     let no_way : Sound (g.T.DomainTable.sound s.table) D m (tm s.table) s.run s.alive s.count s.choices → ⊥ = λ sd.
-    let h = c.in-ok-mark.ensures.does sd.part in
-    let q = c.in-ok-keep.ensures.does h.1 in
-    let e = marked-kept D m (tm s.table) (tm c.mark.new.self) (tm c.keep.new.self) c.args.x c.args.v c.in-ok-keep.field-0 h.0 q.0 in
+    let h = c.in_ok-mark.ensures.does sd.part in
+    let q = c.in_ok-keep.ensures.does h.1 in
+    let e = marked-kept D m (tm s.table) (tm c.mark.new.self) (tm c.keep.new.self) c.args.x c.args.v c.in_ok-keep.field-0 h.0 q.0 in
     let n = ap (λ z. z.variables) e ∙ (running D m (tm s.table) s.run s.alive s.count s.choices c.if-not-self.false sd.runs).variables in
     let st = top-stable D m (tm s.table) s.run s.alive s.count s.choices c.if-not-self.false c.if-not-self-2.false sd.runs in
-    (c.in-err-self.ensures.filters q.1).0 n (begins_kept D m (tm s.table) (tm c.keep.new.self) (tm s.table).domains _ c.args.x c.args.v e st) in
+    (c.in_err-self.ensures.filters q.1).0 n (begins_kept D m (tm s.table) (tm c.keep.new.self) (tm s.table).domains _ c.args.x c.args.v e st) in
     record { does = λ sd. absurd (no_way sd); refused = λ sd. absurd (no_way sd) }
 
 pub returns : goal.returns
@@ -65,14 +65,14 @@ returns g c =
     let tm = g.T.DomainTable.means in
     record {
       does = λ sd.
-          let h = c.in-ok-mark.ensures.does sd.part in
-          let q = c.in-ok-keep.ensures.does h.1 in
-          let e = marked-kept D m (tm s.table) (tm c.mark.new.self) (tm c.keep.new.self) c.args.x c.args.v c.in-ok-keep.field-0 h.0 q.0 in
+          let h = c.in_ok-mark.ensures.does sd.part in
+          let q = c.in_ok-keep.ensures.does h.1 in
+          let e = marked-kept D m (tm s.table) (tm c.mark.new.self) (tm c.keep.new.self) c.args.x c.args.v c.in_ok-keep.field-0 h.0 q.0 in
           let n = ap (λ z. z.variables) e ∙ (running D m (tm s.table) s.run s.alive s.count s.choices c.if-not-self.false sd.runs).variables in
           let st = top-stable D m (tm s.table) s.run s.alive s.count s.choices c.if-not-self.false c.if-not-self-2.false sd.runs in
-          let f = c.in-ok-self.ensures.filters q.1 in
+          let f = c.in_ok-self.ensures.filters q.1 in
           let b = begins_kept D m (tm s.table) (tm c.keep.new.self) (tm s.table).domains _ c.args.x c.args.v e st in
-          take_done D m (g.T.DomainTable.sound s.table) (g.T.DomainTable.sound c.filter.new.table) (tm s.table) (tm c.mark.new.self) (tm c.keep.new.self) (tm c.filter.new.table) s.run s.alive c.in-ok-self.field-0 s.count c.args.x c.args.v s.choices c.in-ok-keep.field-0
+          take_done D m (g.T.DomainTable.sound s.table) (g.T.DomainTable.sound c.filter.new.table) (tm s.table) (tm c.mark.new.self) (tm c.keep.new.self) (tm c.filter.new.table) s.run s.alive c.in_ok-self.field-0 s.count c.args.x c.args.v s.choices c.in_ok-keep.field-0
           sd f.1 c.if-not-self.false c.if-not-self-2.false (c.chosen.ensures.yes sd.part c.if-not-chosen.false) h.0 q.0 (f.0 n b);
       refused = λ sd. tt;
     }

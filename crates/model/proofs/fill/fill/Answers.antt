@@ -13,14 +13,14 @@ loop-i-init g c = placed-none c.args.entries.now c.args.from
 within : (each read count i at len : ℕ) → read ≡ each → i < count → at + each * count ≤ len → at + read * i + each ≤ len
 within each read count i at len e lt h = let p : read * i ≡ each * i = ap (λ (k : ℕ). k * i) e in omega (arith, entry-within each count i lt)
 
-pub overflow-mul-each : goal.overflow-mul-each
-overflow-mul-each g c = record { fits = omega (arith, within g.E.Entry.each c.each-each.result c.args.count c.loop-i.i c.args.at (length c.args.bytes.now) c.each-each.ensures c.loop-i-test.true c.requires.1) }
+pub overflow_mul-each : goal.overflow_mul-each
+overflow_mul-each g c = record { fits = omega (arith, within g.E.Entry.each c.each-each.result c.args.count c.loop-i.i c.args.at (length c.args.bytes.now) c.each-each.ensures c.loop-i-test.true c.requires.1) }
 
-pub overflow-add-at : goal.overflow-add-at
-overflow-add-at g c = record { fits = omega (arith, within g.E.Entry.each c.each-each.result c.args.count c.loop-i.i c.args.at (length c.args.bytes.now) c.each-each.ensures c.loop-i-test.true c.requires.1) }
+pub overflow_add-at : goal.overflow_add-at
+overflow_add-at g c = record { fits = omega (arith, within g.E.Entry.each c.each-each.result c.args.count c.loop-i.i c.args.at (length c.args.bytes.now) c.each-each.ensures c.loop-i-test.true c.requires.1) }
 
-pub read-at-requires : goal.read-at-requires
-read-at-requires g c = within g.E.Entry.each c.each-each.result c.args.count c.loop-i.i c.args.at (length c.args.bytes.now) c.each-each.ensures c.loop-i-test.true c.requires.1
+pub read_at-requires : goal.read_at-requires
+read_at-requires g c = within g.E.Entry.each c.each-each.result c.args.count c.loop-i.i c.args.at (length c.args.bytes.now) c.each-each.ensures c.loop-i-test.true c.requires.1
 
 pub loop-i-preserved : goal.loop-i-preserved
 loop-i-preserved g c =
@@ -33,7 +33,7 @@ loop-i-preserved g c =
     let each = g.E.Entry.each in
     let new = entries_in read each i (drop at bs) in
     let d : drop (at + c.each-each.result * i) bs ≡ drop (each * i) (drop at bs) = ap (λ (k : ℕ). drop (at + k * i) bs) c.each-each.ensures ∙ sym (drop-drop (each * i) at bs) in
-    let v = c.read-at.ensures ∙ ap read d in
-    ap (λ xs. set xs (from + i) c.read-at.result) c.loop-i.invariant
-    ∙ placed_more old new from i c.read-at.result (length-entries read each i (drop at bs)) (omega arith)
+    let v = c.read_at.ensures ∙ ap read d in
+    ap (λ xs. set xs (from + i) c.read_at.result) c.loop-i.invariant
+    ∙ placed_more old new from i c.read_at.result (length-entries read each i (drop at bs)) (omega arith)
     ∙ ap (λ xs. take from old ++ (xs ++ drop (from + (i + 1)) old)) (ap (λ x. new ++ (x ∷ [])) v ∙ sym (entries_more read each i (drop at bs)))

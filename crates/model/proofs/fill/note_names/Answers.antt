@@ -1,6 +1,6 @@
 use Rattle.std.proofs.Common.{◌≡◌, ℕ, ◌+◌, ◌-◌, ◌*◌, ◌<◌, ◌||◌, eqb, List, [], ◌∷◌, length, get_or, drop, set, sym, refl, ap, ◌∙◌, subst, add-zero, arith}
 use Rattle.std.proofs.lemmas.List.{get_or-drop, get_or_default}
-use Rattle.std.specs.List.{AllByRecursion as All}
+use Rattle.std.specs.List.{AllByRecursion}
 use Rattle.bits.specs.Bit.{has}
 use Rattle.bits.specs.declared.Set.{Set}
 use Rattle.model.specs.Reading.{variable_at, variables_in}
@@ -21,19 +21,19 @@ next bs at each count i lt =
 pub loop-i-init : goal.loop-i-init
 loop-i-init c =
     let e = entries_start variable_at c.args.each c.args.bytes.now c.args.at c.args.count in
-    (subst (All (λ x. x < length c.args.naming.now)) (sym e) c.requires.1.1.1, λ x r l. ap (λ (xs : List ℕ). noted c.args.naming.now c.args.record xs x r) e)
+    (subst (AllByRecursion (λ x. x < length c.args.naming.now)) (sym e) c.requires.1.1.1, λ x r l. ap (λ (xs : List ℕ). noted c.args.naming.now c.args.record xs x r) e)
 
-pub overflow-mul-x : goal.overflow-mul-x
-overflow-mul-x c = record { fits = omega (arith, entry-within c.args.each c.args.count c.loop-i.i c.loop-i-test.true) }
+pub overflow_mul-x : goal.overflow_mul-x
+overflow_mul-x c = record { fits = omega (arith, entry-within c.args.each c.args.count c.loop-i.i c.loop-i-test.true) }
 
-pub overflow-add-x : goal.overflow-add-x
-overflow-add-x c = record { fits = omega (arith, entry-within c.args.each c.args.count c.loop-i.i c.loop-i-test.true) }
+pub overflow_add-x : goal.overflow_add-x
+overflow_add-x c = record { fits = omega (arith, entry-within c.args.each c.args.count c.loop-i.i c.loop-i-test.true) }
 
 pub bounds-bytes-at : goal.bounds-bytes-at
 bounds-bytes-at c = omega (arith, entry-within c.args.each c.args.count c.loop-i.i c.loop-i-test.true)
 
 abbrev Held : List Set → List Set → ℕ → List ℕ → List ℕ → Type 0
-Held old sets k rest all = All (λ x. x < length old) rest × ((x r : ℕ) → x < length old → noted sets k rest x r ≡ noted old k all x r)
+Held old sets k rest all = AllByRecursion (λ x. x < length old) rest × ((x r : ℕ) → x < length old → noted sets k rest x r ≡ noted old k all x r)
 
 module _ (old sets : List Set) (k : ℕ) (bs : List ℕ) (at each count i : ℕ) (all : List ℕ) (lt : i < count) (h : Held old sets k (rest bs at each count i) all) where
   -- the invariant, with the entry at hand taken apart
@@ -46,8 +46,8 @@ module _ (old sets : List Set) (k : ℕ) (bs : List ℕ) (at each count i : ℕ)
   again : (s : Set) → length sets ≡ length old → ((u : ℕ) → has s.word u ≡ (has (get_or sets (get_or bs (at + each * i) 0) none).word u || eqb u k)) → Held old (set sets (get_or bs (at + each * i) 0) s) k (rest bs at each count (i + 1)) all
   again s e w = (here.0.1, λ x r l. noted-next sets k (get_or bs (at + each * i) 0) s (rest bs at each count (i + 1)) (there e) w x r ∙ here.1 x r l)
 
-pub slice-copy-out·set : goal.slice-copy-out·set
-slice-copy-out·set c = there c.args.naming.now c.loop-i.naming c.args.record c.args.bytes.now c.args.at c.args.each c.args.count c.loop-i.i (variables_in c.args.each c.args.count (drop c.args.at c.args.bytes.now)) c.loop-i-test.true c.loop-i.invariant c.loop-i.auto.naming
+pub slice_copy_out-set : goal.slice_copy_out-set
+slice_copy_out-set c = there c.args.naming.now c.loop-i.naming c.args.record c.args.bytes.now c.args.at c.args.each c.args.count c.loop-i.i (variables_in c.args.each c.args.count (drop c.args.at c.args.bytes.now)) c.loop-i-test.true c.loop-i.invariant c.loop-i.auto.naming
 
 pub bounds-naming-x : goal.bounds-naming-x
 bounds-naming-x c = there c.args.naming.now c.loop-i.naming c.args.record c.args.bytes.now c.args.at c.args.each c.args.count c.loop-i.i (variables_in c.args.each c.args.count (drop c.args.at c.args.bytes.now)) c.loop-i-test.true c.loop-i.invariant c.loop-i.auto.naming

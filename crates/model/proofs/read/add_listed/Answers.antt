@@ -11,8 +11,8 @@ use Rattle.model.proofs.Entries.{length-entries}
 use Rattle.model.proofs.Drafting.{Adds, added, added_tidy, filled_front, filled_part, variables-below}
 use Rattle.model.proofs.read.add_listed.Goals as goal
 
-pub note-names-requires : goal.note-names-requires
-note-names-requires c = (omega arith, (omega arith, (c.requires.room, variables-below c.args.draft.now _ c.requires.tidy c.requires.named)))
+pub note_names-requires : goal.note_names-requires
+note_names-requires c = (omega arith, (omega arith, (c.requires.room, variables-below c.args.draft.now _ c.requires.tidy c.requires.named)))
 
 pub returns : goal.returns
 returns c =
@@ -25,7 +25,7 @@ returns c =
     let long = length-entries variable_at 1 n (drop (at + 5) bs) in
     let fits : d.listed + n ≤ length d.distinct = omega (arith, t.long.3, c.requires.most) in
     let s : Stored = Different d.listed n in
-    let next : Draft = record { variables = d.variables; windows = d.windows; records = d.records + 1; stored = lib.ListN.set d.stored d.records s; summed = d.summed; terms = d.terms; listed = d.listed + n; distinct = c.fill.new.entries; naming = c.note-names.new.naming } in
+    let next : Draft = record { variables = d.variables; windows = d.windows; records = d.records + 1; stored = lib.ListN.set d.stored d.records s; summed = d.summed; terms = d.terms; listed = d.listed + n; distinct = c.fill.new.entries; naming = c.note_names.new.naming } in
     let a : Adds d (different new) s next = record {
       variables = refl;
       windows = refl;
@@ -34,14 +34,14 @@ returns c =
       stored = refl;
       terms = refl;
       distinct = ap (take d.listed) c.fill.ensures ∙ filled_front d.distinct new d.listed n long fits;
-      long = (t.long.2, c.fill.auto.entries ∙ t.long.3, c.note-names.auto.naming ∙ t.long.4);
+      long = (t.long.2, c.fill.auto.entries ∙ t.long.3, c.note_names.auto.naming ∙ t.long.4);
       summed = omega arith;
       listed = omega arith;
       total = omega (arith, long);
       most = omega (arith, c.requires.most);
       here = ap different (ap (λ xs. take n (drop d.listed xs)) c.fill.ensures ∙ filled_part d.distinct new d.listed n long fits);
       placed = le-leb (d.listed + n) (d.listed + n) (omega arith);
-      noted = λ x k l. c.note-names.ensures x k (omega (arith, l, t.long.4));
+      noted = λ x k l. c.note_names.ensures x k (omega (arith, l, t.long.4));
     } in
     record {
       tidy = added_tidy d (different new) s next t a;

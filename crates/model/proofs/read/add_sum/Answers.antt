@@ -15,8 +15,8 @@ use Rattle.model.proofs.Entries.{length-entries, terms-names}
 use Rattle.model.proofs.Drafting.{Adds, added, added_tidy, filled_front, filled_part, variables-below}
 use Rattle.model.proofs.read.add_sum.Goals as goal
 
-pub note-names-requires : goal.note-names-requires
-note-names-requires c = (omega arith, (omega arith, (c.requires.room, variables-below c.args.draft.now _ c.requires.tidy c.requires.named)))
+pub note_names-requires : goal.note_names-requires
+note_names-requires c = (omega arith, (omega arith, (c.requires.room, variables-below c.args.draft.now _ c.requires.tidy c.requires.named)))
 
 pub returns : goal.returns
 returns c =
@@ -29,10 +29,10 @@ returns c =
     let long-new = length-entries term_at 3 n (drop (at + 9) bs) in
     let named : length (map (λ (u : Term). u.variable) new) ≡ n = length-map new (λ (u : Term). u.variable) ∙ long-new in
     let fits : d.summed + n ≤ length d.terms = omega (arith, t.long.2, c.requires.most) in
-    let bound = to_z w32 (of_z w32 c.cast-signed-bound.result) in
-    let bound-is : bound ≡ bound_in (drop at bs) = to_z-of_z w32 c.cast-signed-bound.result (record { sfits = c.cast-signed-bound.type-inv }) ∙ c.cast-signed-bound.ensures ∙ ap (to_z w32) (c.long-at.ensures ∙ long-later bs at 5) in
+    let bound = to_z w32 (of_z w32 c.cast_signed-bound.result) in
+    let bound-is : bound ≡ bound_in (drop at bs) = to_z-of_z w32 c.cast_signed-bound.result (record { sfits = c.cast_signed-bound.type_inv }) ∙ c.cast_signed-bound.ensures ∙ ap (to_z w32) (c.long_at.ensures ∙ long-later bs at 5) in
     let s : Stored = AtMost bound d.summed n in
-    let next : Draft = record { variables = d.variables; windows = d.windows; records = d.records + 1; stored = lib.ListN.set d.stored d.records s; summed = d.summed + n; terms = c.fill.new.entries; listed = d.listed; distinct = d.distinct; naming = c.note-names.new.naming } in
+    let next : Draft = record { variables = d.variables; windows = d.windows; records = d.records + 1; stored = lib.ListN.set d.stored d.records s; summed = d.summed + n; terms = c.fill.new.entries; listed = d.listed; distinct = d.distinct; naming = c.note_names.new.naming } in
     let a : Adds d (at_most bound new) s next = record {
       variables = refl;
       windows = refl;
@@ -41,14 +41,14 @@ returns c =
       stored = refl;
       terms = ap (take d.summed) c.fill.ensures ∙ filled_front d.terms new d.summed n long-new fits;
       distinct = refl;
-      long = (c.fill.auto.entries ∙ t.long.2, t.long.3, c.note-names.auto.naming ∙ t.long.4);
+      long = (c.fill.auto.entries ∙ t.long.2, t.long.3, c.note_names.auto.naming ∙ t.long.4);
       summed = omega arith;
       listed = omega arith;
       total = omega (arith, named);
       most = omega (arith, c.requires.most);
       here = ap (at_most bound) (ap (λ xs. take n (drop d.summed xs)) c.fill.ensures ∙ filled_part d.terms new d.summed n long-new fits);
       placed = le-leb (d.summed + n) (d.summed + n) (omega arith);
-      noted = λ x k l. c.note-names.ensures x k (omega (arith, l, t.long.4)) ∙ ap (λ xs. has (get_or d.naming x none).word k || (eqb k d.records && among x xs)) (sym (terms-names n (drop (at + 9) bs)));
+      noted = λ x k l. c.note_names.ensures x k (omega (arith, l, t.long.4)) ∙ ap (λ xs. has (get_or d.naming x none).word k || (eqb k d.records && among x xs)) (sym (terms-names n (drop (at + 9) bs)));
     } in
     record {
       tidy = added_tidy d (at_most bound new) s next t a;

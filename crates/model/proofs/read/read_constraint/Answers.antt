@@ -32,14 +32,14 @@ module _ (bs : List ℕ) (at : ℕ) (k : RecordKind) (w : Whole false (drop at b
         ∙ ap₂ (λ (n : ℕ) (xs : List ℕ). is_named_once (length (drafted d).windows) (variables_in (shape k).each n xs)) (sym counts) (sym (drop-drop (4 + (shape k).before) at bs))
 
 pub bounds-bytes-at : goal.bounds-bytes-at
-bounds-bytes-at c = omega (arith, ends c.args.bytes.now c.args.at c.in-ok-kind.kind c.in-ok-kind.ensures.opens, (each-some c.in-ok-kind.kind).1)
+bounds-bytes-at c = omega (arith, ends c.args.bytes.now c.args.at c.in_ok-kind.kind c.in_ok-kind.ensures.opens, (each-some c.in_ok-kind.kind).1)
 
 pub returns-then-draft-ge64 : goal.returns-then-draft-ge64
 returns-then-draft-ge64 c =
     let d = c.args.draft.now in
     let bs = c.args.bytes.now in
-    let k = c.in-ok-kind.kind in
-    let w = c.in-ok-kind.ensures.opens in
+    let k = c.in_ok-kind.kind in
+    let w = c.in_ok-kind.ensures.opens in
     let n = counts bs c.args.at k w in
     let t = c.requires.0 in
     elim c.then-draft-ge64.branch [
@@ -47,10 +47,10 @@ returns-then-draft-ge64 c =
       | then-draft-ge64-via-else-draft-ge64+then-count-draft v ↦ (refl, crowded_step (drop c.args.at bs) k w (drafted d) (inr (omega (arith, t.entries, n, v.if-count-draft.true))))
     ]
 
-pub named-once-requires : goal.named-once-requires
-named-once-requires c =
-    let k = c.in-ok-kind.kind in
-    let e = ends c.args.bytes.now c.args.at k c.in-ok-kind.ensures.opens in
+pub named_once-requires : goal.named_once-requires
+named_once-requires c =
+    let k = c.in_ok-kind.kind in
+    let e = ends c.args.bytes.now c.args.at k c.in_ok-kind.ensures.opens in
     let n = get_or c.args.bytes.now (c.args.at + 4) 0 in
     let s = c.shape-shape.ensures in
     let p : c.shape-shape.result.each * n ≡ (shape k).each * n = ap (λ (z : Shape). z.each * n) s in
@@ -63,23 +63,23 @@ module _ (d : Draft) (t : Tidy d) (bs : List ℕ) (at : ℕ) (k : RecordKind) (w
   most : entries (drafted d).records + count (drop at bs) ≤ 1024
   most = omega (arith, t.entries, t.most, counts bs at k w)
 
-pub returns-then-not-named-once : goal.returns-then-not-named-once
-returns-then-not-named-once c =
+pub returns-then-not-named_once : goal.returns-then-not-named_once
+returns-then-not-named_once c =
     let d = c.args.draft.now in
     let bs = c.args.bytes.now in
     let at = c.args.at in
-    let k = c.in-ok-kind.kind in
-    let w = c.in-ok-kind.ensures.opens in
+    let k = c.in_ok-kind.kind in
+    let w = c.in_ok-kind.ensures.opens in
     let t = c.requires.0 in
-    (refl, variable-step (drop at bs) (drafted d) (omega (arith, drafted-records d t, c.if-draft-ge64.false)) (most d t bs at k w c.if-count-draft.false) k w (sym (c.if-not-named-once.ensures ∙ reads_names bs at k w d t c.shape-shape.result c.shape-shape.ensures)))
+    (refl, variable-step (drop at bs) (drafted d) (omega (arith, drafted-records d t, c.if-draft-ge64.false)) (most d t bs at k w c.if-count-draft.false) k w (sym (c.if-not-named_once.ensures ∙ reads_names bs at k w d t c.shape-shape.result c.shape-shape.ensures)))
 
-pub add-record-requires : goal.add-record-requires
-add-record-requires c =
+pub add_record-requires : goal.add_record-requires
+add_record-requires c =
     let d = c.args.draft.now in
     let bs = c.args.bytes.now in
     let at = c.args.at in
-    let k = c.in-ok-kind.kind in
-    let w = c.in-ok-kind.ensures.opens in
+    let k = c.in_ok-kind.kind in
+    let w = c.in_ok-kind.ensures.opens in
     let t = c.requires.0 in (
       record {
         tidy = t;
@@ -87,25 +87,25 @@ add-record-requires c =
         most = omega (arith, most d t bs at k w c.if-count-draft.false, t.entries, counts bs at k w);
         whole = ends bs at k w;
         is = sym (counts bs at k w);
-        named = ap (λ (z : Shape). is_named_once d.variables (variables_in z.each (get_or bs (at + 4) 0) (drop (at + (4 + z.before)) bs))) (sym c.shape-shape.ensures) ∙ sym c.if-not-named-once.ensures;
+        named = ap (λ (z : Shape). is_named_once d.variables (variables_in z.each (get_or bs (at + 4) 0) (drop (at + (4 + z.before)) bs))) (sym c.shape-shape.ensures) ∙ sym c.if-not-named_once.ensures;
       },
       w.placed,
     )
 
-pub word-at-requires : goal.word-at-requires
-word-at-requires c = omega (arith, ends c.args.bytes.now c.args.at c.in-ok-kind.kind c.in-ok-kind.ensures.opens)
+pub word_at-requires : goal.word_at-requires
+word_at-requires c = omega (arith, ends c.args.bytes.now c.args.at c.in_ok-kind.kind c.in_ok-kind.ensures.opens)
 
 pub returns : goal.returns
 returns c =
     let d = c.args.draft.now in
     let bs = c.args.bytes.now in
     let at = c.args.at in
-    let k = c.in-ok-kind.kind in
-    let w = c.in-ok-kind.ensures.opens in
+    let k = c.in_ok-kind.kind in
+    let w = c.in_ok-kind.ensures.opens in
     let t = c.requires.0 in
     record {
-      tidy = c.add-record.ensures.tidy;
-      step = record_step (drop at bs) (drafted d) (omega (arith, drafted-records d t, c.if-draft-ge64.false)) (most d t bs at k w c.if-count-draft.false) k w (sym (c.if-not-named-once.ensures ∙ reads_names bs at k w d t c.shape-shape.result c.shape-shape.ensures)) ∙ ap more (sym c.add-record.ensures.means);
-      offset = ap (λ (n : ℕ). at + (4 + n)) c.word-at.ensures;
-      within = omega (arith, w.ended, length-drop at bs, c.word-at.ensures, c.requires.1);
+      tidy = c.add_record.ensures.tidy;
+      step = record_step (drop at bs) (drafted d) (omega (arith, drafted-records d t, c.if-draft-ge64.false)) (most d t bs at k w c.if-count-draft.false) k w (sym (c.if-not-named_once.ensures ∙ reads_names bs at k w d t c.shape-shape.result c.shape-shape.ensures)) ∙ ap more (sym c.add_record.ensures.means);
+      offset = ap (λ (n : ℕ). at + (4 + n)) c.word_at.ensures;
+      within = omega (arith, w.ended, length-drop at bs, c.word_at.ensures, c.requires.1);
     }

@@ -13,7 +13,7 @@ returns c =
     let d = c.args.draft.now in
     let bs = c.args.bytes.now in
     let t = c.requires.0 in
-    let w = windows-whole bs (drafted d) c.in-ok-record-at.field-0 c.in-ok-record-at.ensures.opens in
+    let w = windows-whole bs (drafted d) c.in_ok-record_at.field-0 c.in_ok-record_at.ensures.opens in
     let n = get_or bs 4 0 in
     let new = windows_in n (drop 5 bs) in
     let taken : take n c.fill.new.entries ≡ new = ap (take n) c.fill.ensures ∙ take_at new (drop (0 + n) d.windows) n (length-entries window_at 2 n (drop 5 bs)) in
@@ -28,9 +28,9 @@ returns c =
           placed = t.placed;
           noted = t.noted;
         };
-        step = windows-step bs (drafted d) w (sym c.if-not-windows-fit.ensures) ∙ ap (λ ws. more (record { windows = ws; records = (drafted d).records })) (sym taken);
-        offset = omega (arith, c.word-at.ensures);
-        within = omega (arith, w.ended, c.word-at.ensures);
+        step = windows-step bs (drafted d) w (sym c.if-not-windows_fit.ensures) ∙ ap (λ ws. more (record { windows = ws; records = (drafted d).records })) (sym taken);
+        offset = omega (arith, c.word_at.ensures);
+        within = omega (arith, w.ended, c.word_at.ensures);
       };
-      bytes = λ i. (c.type-inv.bytes i).fits;
+      bytes = λ i. (c.type_inv.bytes i).fits;
     }

@@ -9,11 +9,11 @@ use Rattle.model.proofs.scan.named_once.Goals.{then-x-variables-via-then-x-varia
 pub loop-i-init : goal.loop-i-init
 loop-i-init c = named_start c.args.variables (has c.empty-seen.result.word) _ _ c.empty-seen.ensures (entries_start variable_at c.args.each c.args.bytes.now c.args.at c.args.count)
 
-pub overflow-mul-x : goal.overflow-mul-x
-overflow-mul-x c = record { fits = omega (arith, entry-within c.args.each c.args.count c.loop-i.i c.loop-i-test.true) }
+pub overflow_mul-x : goal.overflow_mul-x
+overflow_mul-x c = record { fits = omega (arith, entry-within c.args.each c.args.count c.loop-i.i c.loop-i-test.true) }
 
-pub overflow-add-x : goal.overflow-add-x
-overflow-add-x c = record { fits = omega (arith, entry-within c.args.each c.args.count c.loop-i.i c.loop-i-test.true) }
+pub overflow_add-x : goal.overflow_add-x
+overflow_add-x c = record { fits = omega (arith, entry-within c.args.each c.args.count c.loop-i.i c.loop-i-test.true) }
 
 pub bounds-bytes-at : goal.bounds-bytes-at
 bounds-bytes-at c = omega (arith, entry-within c.args.each c.args.count c.loop-i.i c.loop-i-test.true)

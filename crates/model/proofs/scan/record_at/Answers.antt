@@ -15,55 +15,55 @@ returns-then-left-lt4 c =
     let bs = c.args.bytes.now in
     let at = c.args.at in
     let n = length-drop at bs in
-    record { opens = (refl, λ m. short_step c.args.first (drop at bs) m (omega arith)); bytes = λ i. (c.type-inv.bytes i).fits }
+    record { opens = (refl, λ m. short_step c.args.first (drop at bs) m (omega arith)); bytes = λ i. (c.type_inv.bytes i).fits }
 
-pub returns-in-default : goal.returns-in-default
-returns-in-default c =
+pub returns-in_default : goal.returns-in_default
+returns-in_default c =
     let bs = c.args.bytes.now in
     let at = c.args.at in
     let n = length-drop at bs in
-    let k = kind_at bs at c.word-at.result None c.word-at.ensures c.in-default.ensures in
-    record { opens = (refl, λ m. known_step c.args.first (drop at bs) m None (omega arith) k); bytes = λ i. (c.type-inv.bytes i).fits }
+    let k = kind_at bs at c.word_at.result None c.word_at.ensures c.in_default.ensures in
+    record { opens = (refl, λ m. known_step c.args.first (drop at bs) m None (omega arith) k); bytes = λ i. (c.type_inv.bytes i).fits }
 
 pub returns-then-misplaced : goal.returns-then-misplaced
 returns-then-misplaced c =
     let bs = c.args.bytes.now in
     let at = c.args.at in
     let n = length-drop at bs in
-    let k = kind_at bs at c.word-at.result _ c.word-at.ensures c.in-Some.ensures in
-    record { opens = (refl, λ m. misplaced_step c.args.first (drop at bs) m c.in-Some.kind (omega arith) k (sym c.if-misplaced.ensures)); bytes = λ i. (c.type-inv.bytes i).fits }
+    let k = kind_at bs at c.word_at.result _ c.word_at.ensures c.in-Some.ensures in
+    record { opens = (refl, λ m. misplaced_step c.args.first (drop at bs) m c.in-Some.kind (omega arith) k (sym c.if-misplaced.ensures)); bytes = λ i. (c.type_inv.bytes i).fits }
 
 pub returns-then-left-length : goal.returns-then-left-length
 returns-then-left-length c =
     let bs = c.args.bytes.now in
     let at = c.args.at in
     let n = length-drop at bs in
-    let e = c.word-at-length.ensures in
-    let k = kind_at bs at c.word-at.result _ c.word-at.ensures c.in-Some.ensures in
-    record { opens = (refl, λ m. cut_step c.args.first (drop at bs) m c.in-Some.kind (omega arith) k (sym c.if-misplaced.ensures) (omega arith)); bytes = λ i. (c.type-inv.bytes i).fits }
+    let e = c.word_at-length.ensures in
+    let k = kind_at bs at c.word_at.result _ c.word_at.ensures c.in-Some.ensures in
+    record { opens = (refl, λ m. cut_step c.args.first (drop at bs) m c.in-Some.kind (omega arith) k (sym c.if-misplaced.ensures) (omega arith)); bytes = λ i. (c.type_inv.bytes i).fits }
 
 pub returns-then-misfits : goal.returns-then-misfits
 returns-then-misfits c =
     let bs = c.args.bytes.now in
     let at = c.args.at in
     let n = length-drop at bs in
-    let e = c.word-at-length.ensures in
-    let k = kind_at bs at c.word-at.result _ c.word-at.ensures c.in-Some.ensures in
-    record { opens = (refl, λ m. misfit_step c.args.first (drop at bs) m c.in-Some.kind (omega arith) k (sym c.if-misplaced.ensures) (omega arith) (sym c.if-misfits.ensures)); bytes = λ i. (c.type-inv.bytes i).fits }
+    let e = c.word_at-length.ensures in
+    let k = kind_at bs at c.word_at.result _ c.word_at.ensures c.in-Some.ensures in
+    record { opens = (refl, λ m. misfit_step c.args.first (drop at bs) m c.in-Some.kind (omega arith) k (sym c.if-misplaced.ensures) (omega arith) (sym c.if-misfits.ensures)); bytes = λ i. (c.type_inv.bytes i).fits }
 
 pub returns : goal.returns
 returns c =
     let bs = c.args.bytes.now in
     let at = c.args.at in
     let n = length-drop at bs in
-    let e = c.word-at-length.ensures in
+    let e = c.word_at-length.ensures in
     record {
       opens = record {
         headed = omega arith;
-        known = kind_at bs at c.word-at.result _ c.word-at.ensures c.in-Some.ensures;
+        known = kind_at bs at c.word_at.result _ c.word_at.ensures c.in-Some.ensures;
         placed = sym c.if-misplaced.ensures;
         ended = omega arith;
         fits = sym c.if-misfits.ensures;
       };
-      bytes = λ i. (c.type-inv.bytes i).fits;
+      bytes = λ i. (c.type_inv.bytes i).fits;
     }

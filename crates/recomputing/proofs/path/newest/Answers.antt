@@ -12,4 +12,4 @@ pub loop-i-preserved : goal.loop-i-preserved
 loop-i-preserved c =
     let i = c.loop-i.invariant in
     let e : c.loop-i.i ≡ suc (c.loop-i.i - 1) = let t = c.loop-i-test.true in omega arith in
-    (omega arith, λ h. i.1 h ∙ skip_drop c.args.path.now c.loop-i.i (c.loop-i.i - 1) e c.in-default.not-Take)
+    (omega arith, λ h. i.1 h ∙ skip_drop c.args.path.now c.loop-i.i (c.loop-i.i - 1) e c.in_default.not-Take)

@@ -28,8 +28,8 @@ returns-then-settles g c = λ o.
     (ltb 0 c.nodes-run.result) (λ e. omega (arith, ltb-true 0 c.nodes-run.result e, c.nodes-run.ensures o)) (g.P.Space.laws c.args.space.now o)
     (sym c.settles.ensures ∙ c.if-settles.true) c.if-size-gt1.true (sym c.replaces.ensures ∙ c.if-replaces.true) (c.in-Ok.ensures o) (c.loop-x.invariant o)
 
-pub returns-in-default : goal.returns-in-default
-returns-in-default g c = λ o. refused (g.P.Space.means c.args.space.now) (g.P.Space.laws c.args.space.now o) c.args.preference c.loop-x.x c.in-default.field-0 (omega (arith, c.variables-x-end.ensures o, c.loop-x-test.true)) (c.in-default.ensures o)
+pub returns-in_default : goal.returns-in_default
+returns-in_default g c = λ o. refused (g.P.Space.means c.args.space.now) (g.P.Space.laws c.args.space.now o) c.args.preference c.loop-x.x c.in_default.field-0 (omega (arith, c.variables-x-end.ensures o, c.loop-x-test.true)) (c.in_default.ensures o)
 
 pub returns-then-size-eq0 : goal.returns-then-size-eq0
 returns-then-size-eq0 g c = λ o. empty (g.P.Space.means c.args.space.now) (g.P.Space.laws c.args.space.now o) c.args.preference c.loop-x.x c.in-Ok.size (omega (arith, c.variables-x-end.ensures o, c.loop-x-test.true)) c.if-size-eq0.true (c.in-Ok.ensures o)

@@ -2,19 +2,19 @@ use Rattle.std.proofs.Common.{◌≡◌, ℕ, true, false, sym, refl, ◌∙◌,
 use Rattle.spaces.proofs.Opens.{open_from, open_above, open_bound}
 use Rattle.spaces.proofs.ask.chosen.Goals as goal
 
-pub returns-in-default : goal.returns-in-default
-returns-in-default g c =
+pub returns-in_default : goal.returns-in_default
+returns-in_default g c =
     let s = g.T.DomainTable.means c.args.table.now in
     record {
       yes = λ sd e. absurd (true≢false (sym e));
-      no = λ sd e ch. let h = open_bound s c.args.x (g.T.DomainTable.bounded c.args.table.now sd) ch.is_open in let k = (c.in-default.ensures sd).0 in omega arith;
+      no = λ sd e ch. let h = open_bound s c.args.x (g.T.DomainTable.bounded c.args.table.now sd) ch.is_open in let k = (c.in_default.ensures sd).0 in omega arith;
     }
 
-pub returns-in-default-has : goal.returns-in-default-has
-returns-in-default-has g c =
+pub returns-in_default-has : goal.returns-in_default-has
+returns-in_default-has g c =
     record {
       yes = λ sd e. absurd (true≢false (sym e));
-      no = λ sd e ch. let h = (g.T.DomainTable.bounded c.args.table.now sd).within c.args.x c.args.v ch.has in ⊎_elim (λ k. omega arith) (λ k. omega arith) (c.in-default-has.ensures sd).0;
+      no = λ sd e ch. let h = (g.T.DomainTable.bounded c.args.table.now sd).within c.args.x c.args.v ch.has in ⊎_elim (λ k. omega arith) (λ k. omega arith) (c.in_default-has.ensures sd).0;
     }
 
 pub returns-then-size-gt1 : goal.returns-then-size-gt1

@@ -4,8 +4,8 @@ use Rattle.model.specs.Drafts.{drafted}
 use Rattle.model.proofs.Models.{Held, first_of, fresh-held}
 use Rattle.model.proofs.model.Model.fresh.Goals as goal
 
-pub invariant-of-result : goal.invariant-of-result
-invariant-of-result c = subst (λ (d : Draft). Held (first_of d)) (sym c.empty-draft.ensures) fresh-held
+pub invariant_of-result : goal.invariant_of-result
+invariant_of-result c = subst (λ (d : Draft). Held (first_of d)) (sym c.empty-draft.ensures) fresh-held
 
 pub returns : goal.returns
 returns c = ap (λ (d : Draft). drafted (first_of d)) c.empty-draft.ensures

@@ -14,22 +14,22 @@ never m n at e = let z : ◌≡◌ {A = ℕ} 0 1 = cc in omega arith
 same : (m k : Value) → accepted m ≡ accepted k → m ≡ k
 same m k e = cc
 
-pub returns-in-err-draft : goal.returns-in-err-draft
-returns-in-err-draft c =
+pub returns-in_err-draft : goal.returns-in_err-draft
+returns-in_err-draft c =
     let p = err_from_is_err_and c.from-residual.result c.from-residual.ensures.1 in
-    let b = c.in-err-draft.ensures in
+    let b = c.in_err-draft.ensures in
     rw (p.1, p.2) (refl, record { fault = b; none = λ k v e. never k _ _ (sym (laid_out_is_accepted k v) ∙ ap read_model e ∙ b) })
 
-pub invariant-of-self : goal.invariant-of-self
-invariant-of-self c =
-    let r = c.in-ok-draft.ensures in
-    let d = c.in-ok-draft.draft in
+pub invariant_of-self : goal.invariant_of-self
+invariant_of-self c =
+    let r = c.in_ok-draft.ensures in
+    let d = c.in_ok-draft.draft in
     held d r.0 (valid-passes (drafted d) (accepted_is_laid_out c.args.bytes.now (drafted d) r.2 r.1).0)
 
 pub returns : goal.returns
 returns c =
-    let r = c.in-ok-draft.ensures in
-    let d = c.in-ok-draft.draft in
+    let r = c.in_ok-draft.ensures in
+    let d = c.in_ok-draft.draft in
     let l = accepted_is_laid_out c.args.bytes.now (drafted d) r.2 r.1 in
     record {
       read = r.1;

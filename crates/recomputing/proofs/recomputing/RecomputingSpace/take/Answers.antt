@@ -13,8 +13,8 @@ returns-then-not-self-2 g c =
     let t = g.T.DomainTable.means s.table in
     record {
       does = λ sd.
-          let e : c.saturating-add.result ≡ s.takes + 1 = let h = c.saturating-add.ensures in let f = sd.most in omega arith in
-          (stuck_well D m (g.T.DomainTable.sound s.table) t s.alive s.takes s.count s.path s.run c.args.x c.args.v c.saturating-add.result (recomputing D m t s.run s.count s.path) sd c.if-not-self.false c.if-not-self-2.true e, sd);
+          let e : c.saturating_add.result ≡ s.takes + 1 = let h = c.saturating_add.ensures in let f = sd.most in omega arith in
+          (stuck_well D m (g.T.DomainTable.sound s.table) t s.alive s.takes s.count s.path s.run c.args.x c.args.v c.saturating_add.result (recomputing D m t s.run s.count s.path) sd c.if-not-self.false c.if-not-self-2.true e, sd);
       refused = λ sd. refl;
     }
 
@@ -40,18 +40,18 @@ returns-then-count-ge-STEPS g c =
     omega arith in
     record { does = λ sd. absurd (no_way sd); refused = λ sd. absurd (no_way sd) }
 
-pub returns-in-err-self : goal.returns-in-err-self
-returns-in-err-self g c =
+pub returns-in_err-self : goal.returns-in_err-self
+returns-in_err-self g c =
     let s = c.args.self.now in
     let D = g.K.Kinds.demands in
     let m = model-means s.model.now in
     let tm = g.T.DomainTable.means in
     let t = tm s.table in
     let no_way : Sound (g.T.DomainTable.sound s.table) D m t s.run s.alive s.takes s.count s.path → ⊥ = λ sd.
-    let q = c.in-ok-keep.ensures.does sd.part in
+    let q = c.in_ok-keep.ensures.does sd.part in
     let n = ap (λ z. z.variables) q.0.2 ∙ (running D m t s.run s.alive s.count _ c.if-not-self.false sd.runs).variables in
     let st = top-stable D m (g.T.DomainTable.sound s.table) t s.alive s.takes s.count s.path s.run (g.T.DomainTable.bounded s.table sd.part) sd c.if-not-self.false c.if-not-self-2.false in
-    (c.in-err-self.ensures.filters q.1).0 n (begins_kept D m t (tm c.keep.new.self) t.domains t.saved c.args.x c.args.v q.0.2 st) in
+    (c.in_err-self.ensures.filters q.1).0 n (begins_kept D m t (tm c.keep.new.self) t.domains t.saved c.args.x c.args.v q.0.2 st) in
     record { does = λ sd. absurd (no_way sd); refused = λ sd. absurd (no_way sd) }
 
 pub returns : goal.returns
@@ -64,11 +64,11 @@ returns g c =
     record {
       does = λ sd.
           let b = g.T.DomainTable.bounded s.table sd.part in
-          let q = c.in-ok-keep.ensures.does sd.part in
+          let q = c.in_ok-keep.ensures.does sd.part in
           let n = ap (λ z. z.variables) q.0.2 ∙ (running D m t s.run s.alive s.count _ c.if-not-self.false sd.runs).variables in
           let st = top-stable D m (g.T.DomainTable.sound s.table) t s.alive s.takes s.count s.path s.run b sd c.if-not-self.false c.if-not-self-2.false in
-          let f = c.in-ok-self.ensures.filters q.1 in
-          take_done D m (g.T.DomainTable.sound s.table) t s.alive s.takes s.count s.path (g.T.DomainTable.sound c.filter.new.table) s.run (tm c.keep.new.self) (tm c.filter.new.table) c.in-ok-self.field-0 c.args.x c.args.v c.in-ok-keep.field-0
+          let f = c.in_ok-self.ensures.filters q.1 in
+          take_done D m (g.T.DomainTable.sound s.table) t s.alive s.takes s.count s.path (g.T.DomainTable.sound c.filter.new.table) s.run (tm c.keep.new.self) (tm c.filter.new.table) c.in_ok-self.field-0 c.args.x c.args.v c.in_ok-keep.field-0
           b sd f.1 c.if-not-self.false c.if-not-self-2.false (c.chosen.ensures.yes sd.part c.if-not-chosen.false) q.0 (f.0 n (begins_kept D m t (tm c.keep.new.self) t.domains t.saved c.args.x c.args.v q.0.2 st));
       refused = λ sd. tt;
     }

@@ -10,9 +10,9 @@ differ v e = let z : ◌≡◌ {A = ℕ} 0 1 = cc in omega arith
 pub loop-x-init : goal.loop-x-init
 loop-x-init g c = λ o. copied_none (g.P.Space.means c.args.self.now.space) c.args.row.now
 
-pub returns-in-default-least : goal.returns-in-default-least
-returns-in-default-least g c = λ o a below e n m room.
-    let is : c.least.result ≡ Ok None = c.in-Ok.is ∙ ap Ok c.in-default-least.is in
+pub returns-in_default-least : goal.returns-in_default-least
+returns-in_default-least g c = λ o a below e n m room.
+    let is : c.least.result ≡ Ok None = c.in-Ok.is ∙ ap Ok c.in_default-least.is in
     absurd (never_else (g.P.Space.means c.args.self.now.space) c.loop-x.x (Ok None) a below e n m (omega (arith, c.variables-x-end.ensures o, c.loop-x-test.true)) (subst (Leasts (g.P.Space.means c.args.self.now.space) c.loop-x.x) is (c.least.ensures o)) differ)
 
 pub loop-x-preserved : goal.loop-x-preserved

@@ -17,14 +17,14 @@ stepped_at s t r o q h e f = subst (λ (x : Result (Option State) SearchFault). 
 pub loop-count-init : goal.loop-count-init
 loop-count-init g c = (omega arith, refl, λ o se. (start (view g.P.Space.means g.R.Rule.picks c.args.self.now) c.args.budget se, o))
 
-pub returns-in-default : goal.returns-in-default
-returns-in-default g c = λ o.
+pub returns-in_default : goal.returns-in_default
+returns-in_default g c = λ o.
     let means = g.P.Space.means in
     let picks = g.R.Rule.picks in
     let se = c.if-not-self.false in
     let mid = c.loop-count.invariant.2 o se in
     let did = c.step.ensures mid.0.session mid.1 in
-    let h = stepped_at (view means picks c.loop-count.self) (view means picks c.step.new.self) c.step.result c.in-ok-state.field-0 None did.0 c.in-ok-state.was c.in-default.is in
+    let h = stepped_at (view means picks c.loop-count.self) (view means picks c.step.new.self) c.step.result c.in_ok-state.field-0 None did.0 c.in_ok-state.was c.in_default.is in
     let w = went_done (view means picks c.args.self.now) c.args.budget c.loop-count.count (view means picks c.loop-count.self) mid.0 c.args.row.now se (omega (arith, c.if-length-variables.false, c.variables.ensures o.part)) (omega (arith, c.if-budget-eq0.false)) (view means picks c.step.new.self) h in
     (subst (λ (new : List ℕ). Went (view means picks c.args.self.now) c.args.budget c.args.row.now (Done c.loop-count.count) (view means picks c.step.new.self) new) (sym c.loop-count.invariant.1) w, did.1)
 
@@ -39,7 +39,7 @@ returns-in-Plan g c = λ o.
     let m = view means picks c.loop-count.self in
     let b = c.step.new.self in
     let t = view means picks b in
-    let h = stepped_at m t c.step.result c.in-ok-state.field-0 _ did.0 c.in-ok-state.was (c.in-Some.is ∙ ap Some c.in-Plan.is) in
+    let h = stepped_at m t c.step.result c.in_ok-state.field-0 _ did.0 c.in_ok-state.was (c.in-Some.is ∙ ap Some c.in-Plan.is) in
     let row = c.loop-count.invariant.1 in
     let room : (means c.args.self.now.space).problem.variables ≤ length c.args.row.now = omega (arith, c.if-length-variables.false, c.variables.ensures o.part) in
     let copied : (v : PlanVisited m.space.problem m.rule (rest m) (rest t) t.space.pile (c.args.budget - (c.loop-count.count + 1))) → c.copy.new.row ≡ v.values ++ drop (length v.values) c.args.row.now = λ v.
@@ -62,7 +62,7 @@ loop-count-preserved g c = (
       let did = c.step.ensures mid.0.session mid.1 in
       let m = view means picks c.loop-count.self in
       let t = view means picks c.step.new.self in
-      (on (view means picks c.args.self.now) c.args.budget c.loop-count.count m mid.0 t c.in-Some.state c.loop-count-test.true (stepped_at m t c.step.result c.in-ok-state.field-0 (Some c.in-Some.state) did.0 c.in-ok-state.was c.in-Some.is) c.in-default-state.not-Plan, did.1),
+      (on (view means picks c.args.self.now) c.args.budget c.loop-count.count m mid.0 t c.in-Some.state c.loop-count-test.true (stepped_at m t c.step.result c.in_ok-state.field-0 (Some c.in-Some.state) did.0 c.in_ok-state.was c.in-Some.is) c.in_default-state.not-Plan, did.1),
 )
 
 pub returns-then-ends : goal.returns-then-ends

@@ -22,11 +22,11 @@ fits n w le =
 
 pub returns : goal.returns
 returns c =
-    let n = c.row-size-size.result in
+    let n = c.row_size-size.result in
     let old = c.args.words.now in
     let w = length old in
     let words = c.fill.new.places in
-    let size : n ≡ size_for c.args.wanted w = c.row-size-size.ensures in
+    let size : n ≡ size_for c.args.wanted w = c.row_size-size.ensures in
     let row : take n words ≡ replicate n 0 = ap (take n) c.fill.ensures ∙ take_at (replicate n 0) (drop n old) n (length-replicate n 0) in
     let depth : c.min-depth.result ≡ copy_depth w n = omega arith in
     record {

@@ -19,11 +19,11 @@ fits n e =
 
 pub returns : goal.returns
 returns c =
-    let n = c.row-size-size.result in
+    let n = c.row_size-size.result in
     let old = c.args.cells.now in
     let es = length c.args.entries.now in
     let cells = c.fill.new.places in
-    let size : n ≡ size_for c.args.wanted (length old) = c.row-size-size.ensures in
+    let size : n ≡ size_for c.args.wanted (length old) = c.row_size-size.ensures in
     let front : take n cells ≡ replicate n blank = ap (take n) c.fill.ensures ∙ take_at (replicate n blank) (drop n old) n (length-replicate n blank) in
     let row : values (take n cells) ≡ replicate n 0 = ap values front ∙ map-replicate (λ (x : Cell). x.value) n blank in
     let depth : c.min-depth.result ≡ trail_depth es n = omega arith in

@@ -7,8 +7,8 @@ use Rattle.tables.proofs.words.WordTable.cell.Goals as goal
 
 pub returns : goal.returns
 returns g c = λ sound room.
-    let read = c.in-ok-word.ensures sound in
-    let word = c.in-ok-word.word in
+    let read = c.in_ok-word.ensures sound in
+    let word = c.in_ok-word.word in
     let cells = (g.S.Store.rows c.args.self.now.store).row in
     let fits : word < 2 ^ 64 = search rules in
     let is : c.of.result.word ≡ word = ap (λ (s : Set). s.word) c.of.ensures in

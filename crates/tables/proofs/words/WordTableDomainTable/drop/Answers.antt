@@ -12,7 +12,7 @@ returns-then-not-has g c =
     let r = g.S.Store.rows s.store in
     record {
       does = λ sound.
-          let cell = c.in-ok-cell.ensures sound.0 sound.1 in
+          let cell = c.in_ok-cell.ensures sound.0 sound.1 in
           let out = c.if-not-has.ensures ∙ ap₂ (λ d (u : ℕ). d u) cell.1.2 c.from-v.ensures in
           ((cell.1.0, cell.0, ap (with_domains (meaning s.variables r)) (dropped_absent c.args.x c.args.v (domains_of s.variables digits r.row) (sym out)), out), sound);
       refused = tt;
@@ -28,8 +28,8 @@ returns g c =
     let n = c.without.result.word in
     record {
       does = λ sound.
-          let cell = c.in-ok-cell.ensures sound.0 sound.1 in
-          let did = c.in-ok-write.ensures.does sound.0 in
+          let cell = c.in_ok-cell.ensures sound.0 sound.1 in
+          let did = c.in_ok-write.ensures.does sound.0 in
           let here : (u : ℕ) → has n u ≡ (has (get_or r.row x 0) u && not (eqb u v)) = λ u. c.without.ensures u ∙ ap₂ (λ (k j : ℕ). has k u && not (eqb u j)) cell.1.1 c.from-v.ensures in (
             (
               cell.1.0,

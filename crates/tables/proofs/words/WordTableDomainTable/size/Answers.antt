@@ -7,5 +7,5 @@ use Rattle.tables.proofs.words.WordTableDomainTable.size.Goals as goal
 
 pub returns : goal.returns
 returns g c = λ sound.
-    let cell = c.in-ok-cell.ensures sound.0 sound.1 in
-    (cell.0, c.size.ensures ∙ counted-size (has c.in-ok-cell.cell.word) 64 ∙ ap₂ size cell.2 (sym digits_are))
+    let cell = c.in_ok-cell.ensures sound.0 sound.1 in
+    (cell.0, c.size.ensures ∙ counted-size (has c.in_ok-cell.cell.word) 64 ∙ ap₂ size cell.2 (sym digits_are))

@@ -4,8 +4,8 @@ use Rattle.model.specs.Meaning.{means}
 use Rattle.tables.proofs.Windows.{filled_more, spanned, windows_fit, no_window}
 use Rattle.tables.proofs.words.opening.fill.Goals as goal
 
-pub returns-in-default : goal.returns-in-default
-returns-in-default g c = λ few cells sound. absurd (omega (arith, no_window (means c.args.model.now).windows c.loop-x.x c.in-default.ensures))
+pub returns-in_default : goal.returns-in_default
+returns-in_default g c = λ few cells sound. absurd (omega (arith, no_window (means c.args.model.now).windows c.loop-x.x c.in_default.ensures))
 
 pub loop-x-preserved : goal.loop-x-preserved
 loop-x-preserved g c = λ few cells sound.
