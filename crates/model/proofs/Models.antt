@@ -68,10 +68,10 @@ names-past m x i e h = names-none (length m.windows) x m.records i h (records_of
 
 -- what a model's place has to show
 abbrev pub Held : Draft → Type 0
-Held d = (is_valid (drafted d) ≡ true) × (Long d × ((d.variables ≤ 64) × ((d.records ≤ 64) × ((entries (drafted d).records ≡ d.summed + d.listed) × ((d.summed + d.listed ≤ 1024) × ((are_placed d.summed d.listed (take d.records d.stored) ≡ true) × (Noted d × Unit {0})))))))
+Held d = record { valid : is_valid (drafted d) ≡ true; long : Long d; variables : d.variables ≤ 64; records : d.records ≤ 64; entries : entries (drafted d).records ≡ d.summed + d.listed; most : d.summed + d.listed ≤ 1024; placed : are_placed d.summed d.listed (take d.records d.stored) ≡ true; noted : Noted d }
 
 pub held : (d : Draft) → Tidy d → is_valid (drafted d) ≡ true → Held d
-held d t v = (v, (t.long, (t.variables, (t.records, (t.entries, (t.most, (t.placed, (t.noted, tt))))))))
+held d t v = record { valid = v; long = t.long; variables = t.variables; records = t.records; entries = t.entries; most = t.most; placed = t.placed; noted = t.noted }
 
 -- a place that nothing was read into
 abbrev pub first_of : Draft → Draft

@@ -30,7 +30,7 @@ returns-in_err-mark g c =
     let D = g.K.Kinds.demands in
     let m = model-means s.model.now in
     let tm = g.T.DomainTable.means in
-    let p = err_from_is_err_and c.from-residual.result c.from-residual.ensures.1 in
+    let p = err_from_is_err_and c.from_residual.result c.from_residual.ensures.1 in
     let same = c.in_err-mark.ensures.refused in
     rw (p.1, p.2) record {
       does = λ sd.

@@ -42,7 +42,7 @@ returns-in_err-at-2 c =
     let m = drafted c.loop-at.draft in
     let f = followed bs m at c.loop-at-test.true c.loop-at.invariant.3 in
     let b = c.in_err-at-2.ensures in
-    let p = err_from_is_err_and c.from-residual-in_err-at-2.result c.from-residual-in_err-at-2.ensures.1 in
+    let p = err_from_is_err_and c.from_residual-in_err-at-2.result c.from_residual-in_err-at-2.ensures.1 in
     rw (p.1, p.2) (f.2 ∙ ap (follow (read_rest f.0) at (drop at bs)) b.1 ∙ ap (refused (number c.in_err-at-2.field-0.0)) (sym b.0))
 
 pub loop-at-preserved : goal.loop-at-preserved

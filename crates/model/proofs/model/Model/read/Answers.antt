@@ -16,7 +16,7 @@ same m k e = cc
 
 pub returns-in_err-draft : goal.returns-in_err-draft
 returns-in_err-draft c =
-    let p = err_from_is_err_and c.from-residual.result c.from-residual.ensures.1 in
+    let p = err_from_is_err_and c.from_residual.result c.from_residual.ensures.1 in
     let b = c.in_err-draft.ensures in
     rw (p.1, p.2) (refl, record { fault = b; none = λ k v e. never k _ _ (sym (laid_out_is_accepted k v) ∙ ap read_model e ∙ b) })
 

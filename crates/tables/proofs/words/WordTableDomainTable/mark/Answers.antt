@@ -7,7 +7,7 @@ use Rattle.tables.proofs.words.WordTableDomainTable.mark.Goals as goal
 
 pub returns-in_err-mark : goal.returns-in_err-mark
 returns-in_err-mark g c =
-    let p = err_from_is_err_and c.from-residual.result c.from-residual.ensures.1 in
+    let p = err_from_is_err_and c.from_residual.result c.from_residual.ensures.1 in
     let s = c.args.self.now in
     let r = g.S.Store.rows s.store in
     let t = g.S.Store.rows c.mark.new.self in

@@ -6,7 +6,7 @@ use Rattle.tables.proofs.words.WordTableDomainTable.restore.Goals as goal
 
 pub returns-in_err-restore : goal.returns-in_err-restore
 returns-in_err-restore g c =
-    let p = err_from_is_err_and c.from-residual.result c.from-residual.ensures.1 in
+    let p = err_from_is_err_and c.from_residual.result c.from_residual.ensures.1 in
     let s = c.args.self.now in
     let r = g.S.Store.rows s.store in
     let t = g.S.Store.rows c.restore.new.self in
