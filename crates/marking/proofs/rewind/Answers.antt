@@ -10,12 +10,12 @@ loop-mark-preserved g c = λ sd.
     let m = g.T.DomainTable.means in
     let i = c.loop-mark.invariant sd in
     let h = c.in_ok-restore.ensures.does i.1 in
-    (λ l. along_more (m c.args.table.now) (m c.loop-mark.table) (m c.restore.new.self) c.loop-mark.-mark (i.0 l) h.0, h.1)
+    (λ l. along_more (m c.args.table.now) (m c.loop-mark.table) (m c.restore.new.self) c.loop-mark._mark (i.0 l) h.0, h.1)
 
 pub returns : goal.returns
 returns g c = λ sd.
     let m = g.T.DomainTable.means in
     let i = c.loop-mark.invariant sd in
-    let e : c.loop-mark.-mark ≡ c.args.k = let a = c.loop-mark-test.false in let b = c.loop-mark.auto.-mark-end in omega arith in
+    let e : c.loop-mark._mark ≡ c.args.k = let a = c.loop-mark-test.false in let b = c.loop-mark.auto._mark-end in omega arith in
     let h = c.restore-2.ensures.does i.1 in
-    (rewound (m c.args.table.now) (m c.loop-mark.table) (m c.restore-2.new.self) c.args.k c.loop-mark.-mark c.restore-2.result i.0 e h.0, h.1)
+    (rewound (m c.args.table.now) (m c.loop-mark.table) (m c.restore-2.new.self) c.args.k c.loop-mark._mark c.restore-2.result i.0 e h.0, h.1)

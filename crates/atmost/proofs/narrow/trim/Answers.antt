@@ -29,7 +29,7 @@ returns-in_default g c = λ sd.
     let none = end_none u c.args.term.variable (le_z (pos 0) (to_z w16 (of_z w16 c.args.term.coefficient))) c.in_ok-v.field-0 c.in_default.is (c.in_ok-v.ensures inv.1) in (
       λ n A s nm lt bar so.
           let go = inv.0 n A s nm lt (subst (Barred n A s c.args.term) (sym (to_z-of_z w64 c.args.room c.ranges.room)) bar) so in
-          trim_empty n A s c.args.term c.args.room (g.T.DomainTable.means c.args.table.now) c.loop-turn.-turn c.loop-turn.found u go none,
+          trim_empty n A s c.args.term c.args.room (g.T.DomainTable.means c.args.table.now) c.loop-turn._turn c.loop-turn.found u go none,
       inv.1,
     )
 
@@ -46,7 +46,7 @@ returns-then-from-room g c = λ sd.
     let end = end-some u c.args.term.variable a (to_z w16 (of_z w16 a)) c.in_ok-v.field-0 v (to_z-of_z w16 a f) c.in-Some.is (c.in_ok-v.ensures inv.1) in (
       λ n A s nm lt bar so.
           let go = inv.0 n A s nm lt (subst (Barred n A s c.args.term) (sym (to_z-of_z w64 c.args.room c.ranges.room)) bar) so in
-          trim_ends n A s c.args.term c.args.room (g.T.DomainTable.means c.args.table.now) c.loop-turn.-turn c.loop-turn.found u go v end (omega (arith, ints)),
+          trim_ends n A s c.args.term c.args.room (g.T.DomainTable.means c.args.table.now) c.loop-turn._turn c.loop-turn.found u go v end (omega (arith, ints)),
       inv.1,
     )
 
@@ -84,7 +84,7 @@ loop-turn-preserved g c = λ sd.
           let real = subst (Barred n A s c.args.term) (to_z-of_z w64 c.args.room c.ranges.room) bar in
           let grown = c.with-found.ensures.within (omega (arith, lt, few)) in
           let sofar = sofar-drop n A s found more u w x v go.sofar nm (far_barred n A s c.args.term c.args.room v real test) (end-here u x (upward a) v end) grown did.0.2 in
-          going_drop n A s c.args.term (g.T.DomainTable.means c.args.table.now) c.loop-turn.-turn found more u w v go end sofar did.0.2 (grown x ∙ or_right (has found.word x) (eqb x x) (eq-eqb x x refl)),
+          going_drop n A s c.args.term (g.T.DomainTable.means c.args.table.now) c.loop-turn._turn found more u w v go end sofar did.0.2 (grown x ∙ or_right (has found.word x) (eqb x x) (eq-eqb x x refl)),
       did.1,
     )
 
@@ -95,7 +95,7 @@ returns g c = λ sd.
     let before = g.T.DomainTable.means c.args.table.now in (
       λ n A s nm lt bar so.
           let go = inv.0 n A s nm lt (subst (Barred n A s c.args.term) (sym (to_z-of_z w64 c.args.room c.ranges.room)) bar) so in
-          trim_empty n A s c.args.term c.args.room before c.loop-turn.-turn c.loop-turn.found u go
-          (going_all n A s c.args.term c.args.room before c.loop-turn.-turn c.loop-turn.found u go (g.T.DomainTable.bounded c.loop-turn.table inv.1) (omega (arith, c.loop-turn-test.false))),
+          trim_empty n A s c.args.term c.args.room before c.loop-turn._turn c.loop-turn.found u go
+          (going_all n A s c.args.term c.args.room before c.loop-turn._turn c.loop-turn.found u go (g.T.DomainTable.bounded c.loop-turn.table inv.1) (omega (arith, c.loop-turn-test.false))),
       inv.1,
     )

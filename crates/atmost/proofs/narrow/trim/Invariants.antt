@@ -13,4 +13,4 @@ invariant-loop-turn g l =
     ((n : ℕ) (A : Demand) (s : TableState) →
     A.names l.term.variable ≡ true → l.term.variable < (means l.initial.table).variables →
     Barred n A s l.term l.room → Sofar n A s l.initial.found (means l.initial.table) →
-    Going n A s l.term (means l.initial.table) l.-turn l.found (means l.table)) × g.T.DomainTable.sound l.table
+    Going n A s l.term (means l.initial.table) l._turn l.found (means l.table)) × g.T.DomainTable.sound l.table

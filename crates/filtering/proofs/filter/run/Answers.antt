@@ -39,7 +39,7 @@ returns-in_default g c = λ idle sd.
       λ vs b.
           let mid0 = at_first A laws (records m) s c.args.start (has c.first.result.word) c.records-count.result c.args.list.now c.wake.new.list refl vs refl (g.T.DomainTable.bounded c.args.table.now sd) full b c.first.ensures c.records-count.ensures idle c.wake.ensures in
           let mid = inv.0 vs mid0 in
-          (mid.narrowed, done A laws s t c.loop-round.list c.loop-round.-round mid (c.in_default.ensures mid.orderly).0.0),
+          (mid.narrowed, done A laws s t c.loop-round.list c.loop-round._round mid (c.in_default.ensures mid.orderly).0.0),
       inv.1,
     )
 
@@ -67,7 +67,7 @@ returns-then-shrunk g c = λ idle sd.
           let mid = inv.0 vs mid0 in
           let pops = c.in-Some.ensures mid.orderly in
           let p = same_width D (length (windows m)) (slice_get (records m) item) (together A) s t u r mid.narrowed did.0 in
-          let narrowed = narrowed_on A laws s t c.loop-round.list c.pop.new.self c.loop-round.-round item mid pops.0 u r p in
+          let narrowed = narrowed_on A laws s t c.loop-round.list c.pop.new.self c.loop-round._round item mid pops.0 u r p in
           let e = p.empty c.if-shrunk.true in
           let l = demanded-below D (model-means m) s.width item e.0 g.met.K.Kinds.lawful m.valid e.1 in
           (narrowed, none-fits A laws s u narrowed e.0 l e.2, (e.0, l, e.2)),
@@ -94,7 +94,7 @@ loop-round-preserved g c = λ sd.
           let p = same_width D (length (windows m)) (slice_get (records m) item) (together A) s t u r mid.narrowed did.0 in
           let l = c.loop-round.list in
           let k = c.pop.new.self in
-          let round = c.loop-round.-round in
+          let round = c.loop-round._round in
           let Goal : WaitingList → Type 0 = λ z. Mid A s u z (round + 1) in
           elim c.if-not-is_empty.branch [
             | then-not-is_empty w ↦

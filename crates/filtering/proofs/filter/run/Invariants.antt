@@ -11,4 +11,4 @@ invariant-loop-round g l =
     let s = means l.initial.table in
     let A = asks g.K.Kinds.demands (model-means l.model) s.width in
     g.T.DomainTable.sound l.initial.table →
-    (s.variables ≡ length (windows l.model) → Mid A s s l.initial.list 0 → Mid A s (means l.table) l.list l.-round) × g.T.DomainTable.sound l.table
+    (s.variables ≡ length (windows l.model) → Mid A s s l.initial.list 0 → Mid A s (means l.table) l.list l._round) × g.T.DomainTable.sound l.table

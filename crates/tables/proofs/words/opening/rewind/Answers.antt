@@ -6,5 +6,5 @@ pub returns : goal.returns
 returns g c = λ sound.
     let s = g.S.Store.rows c.args.store.now in
     let h = c.loop-mark.invariant sound in
-    let l : length s.saved ≤ c.loop-mark.-mark = omega (arith, c.marks-marks.ensures sound) in
-    (rewinding_all s (g.S.Store.rows c.loop-mark.store) c.loop-mark.-mark h.0 l, h.1)
+    let l : length s.saved ≤ c.loop-mark._mark = omega (arith, c.marks-marks.ensures sound) in
+    (rewinding_all s (g.S.Store.rows c.loop-mark.store) c.loop-mark._mark h.0 l, h.1)
