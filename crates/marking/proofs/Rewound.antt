@@ -20,14 +20,14 @@ along_none s = record { same = refl; oldest_is = refl; left = omega arith }
 pub along_more : (s t u : TableState) (i : ℕ) → Along s t i → Restores t u (Ok tt) → Along s u (i + 1)
 along_more s t u i a r = record {
   same = restored t u r ∙ ap (λ (q : TableState). stacked q u.domains u.saved) a.same;
-  oldest_is = ap (oldest t.domains) (sym r.0) ∙ a.oldest-is;
+  oldest_is = ap (oldest t.domains) (sym r.0) ∙ a.oldest_is;
   left = let h = a.left in let k = ap length r.0 in omega arith;
 }
 
 along_all : (s t : TableState) → Along s t (length s.saved) → t ≡ stacked s (oldest s.domains s.saved) []
 along_all s t a =
     let e : t.saved ≡ [] = none_of t.saved (let h = a.left in omega arith) in
-    let d : t.domains ≡ oldest s.domains s.saved = sym (ap (oldest t.domains) e) ∙ a.oldest-is in
+    let d : t.domains ≡ oldest s.domains s.saved = sym (ap (oldest t.domains) e) ∙ a.oldest_is in
     a.same ∙ (λ i. stacked s (d i) (e i))
 
 pub rewound : (s t u : TableState) (k i : ℕ) (r : Result Unit TableFault) → (length s.saved ≡ suc k → Along s t i) → i ≡ k → Restores t u r → Rewinds s k u r

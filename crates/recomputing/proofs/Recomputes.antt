@@ -152,7 +152,7 @@ module _ (D : Demands) (m : Value) where
     pub path_below : (run : Bool) (x v : ℕ) → Bounds t → Sound Part0 D m t run alive0 takes k path → run ≡ true → alive0 ≡ true → Choice t.domains x v → k < 4096
     path_below run x v b sd on a ch =
         let c = choosing run x v b sd on a in
-        let l = Walks.path_room P sd.lawful B c.bounded ss t.domains x v sd.few b.narrow c.running-is.walked c.top-is ch.has in
+        let l = Walks.path_room P sd.lawful B c.bounded ss t.domains x v sd.few b.narrow c.running_is.walked c.top_is ch.has in
         let e = Walks.steps-length path k in
         omega arith
 
@@ -192,14 +192,14 @@ module _ (D : Demands) (m : Value) where
         let tk = takes-below true x v b sd on a ch in
         let kk = path_below true x v b sd on a ch in
         let g = filtered D m t t2 t3 alive (kept x v A) t.saved q.2 f in
-        let tp : top P B ss ≡ table A = c.top-is in
+        let tp : top P B ss ≡ table A = c.top_is in
         let pp : steps (set path k (Take x v)) (k + 1) ≡ Take x v ∷ ss = Walks.steps_push path k (Take x v) (let z = sd.sized in omega arith) in
-        let bk : Bounded P (kept x v A) = bounded-inside P (kept x v A) A (kept-inside x v A) (Walks.top-bounded P laws B c.bounded ss A c.running-is.walked tp) in
-        let wk : Walked P B (Take x v ∷ ss) = (subst (λ (N : Node). Made N (Take x v)) (sym tp) ch, c.running-is.walked) in
+        let bk : Bounded P (kept x v A) = bounded-inside P (kept x v A) A (kept-inside x v A) (Walks.top-bounded P laws B c.bounded ss A c.running_is.walked tp) in
+        let wk : Walked P B (Take x v ∷ ss) = (subst (λ (N : Node). Made N (Take x v)) (sym tp) ch, c.running_is.walked) in
         let nk : NodeOf P (kept x v A) (node P (kept x v A)) = node-is P laws (kept x v A) bk in
         let same : node P (kept x v A) ≡ shown alive t3.domains = node_unique P (kept x v A) (node P (kept x v A)) (shown alive t3.domains) nk g.0 in
         let nd : NodeOf P (replayed B (Take x v ∷ ss)) (shown alive t3.domains) = subst (NodeOf P (replayed B (Take x v ∷ ss))) (ap (after P (Take x v)) tp ∙ same) (Walks.top_of P laws B c.bounded (Take x v ∷ ss) wk) in
-        let room : length (taken ss) < depth_over t.depth = let d = depth-some t.depth c.running-is.room in let e = sd.counted in omega arith in
+        let room : length (taken ss) < depth_over t.depth = let d = depth-some t.depth c.running_is.room in let e = sd.counted in omega arith in
         let one : recomputing D m (with_domains t t3.domains) true (k + 1) (set path k (Take x v)) ≡ piled (recomputing D m t true k path) (after P (Take x v) (top P B ss) ∷ top P B ss ∷ under P B ss) ((x, v) ∷ taken ss) =
         (λ i. record { problem = P; variables = t.variables; base = B; saved = []; room = t.depth; pile = top P B (pp i) ∷ under P B (pp i); choices = taken (pp i); depth = depth_over t.depth }) in
         let two : piled (recomputing D m t true k path) (after P (Take x v) (top P B ss) ∷ top P B ss ∷ under P B ss) ((x, v) ∷ taken ss) ≡ piled (recomputing D m t true k path) (node P (kept x v A) ∷ table A ∷ under P B ss) ((x, v) ∷ taken ss) =
@@ -225,7 +225,7 @@ module _ (D : Demands) (m : Value) where
         record {
           at = h.0;
           at_is = h.1;
-          pile = ap (λ (q : List Node). top P B ss ∷ q) (c.under-is ∙ ap (λ (N : Node). N ∷ under P B (steps path j)) h.1);
+          pile = ap (λ (q : List Node). top P B ss ∷ q) (c.under_is ∙ ap (λ (N : Node). N ∷ under P B (steps path j)) h.1);
           choices = c.taken_is;
           walked = (subst (λ (N : Node). Made N (Drop x v)) (sym h.1) h.2, c.walked);
         }

@@ -166,10 +166,10 @@ module _ (a : SearchState) where
 
     next_reached : (s t : SearchState) (cs : List Call) (b : Bool) (n : ℕ) (old new : List ℕ) (r : Answer) → Reached s cs b → Went s n old r t new → Reached t (cs ++ (record { budget = n; old = old; answer = r; new = new } ∷ [])) b
     next_reached s t cs b n old new r h w =
-        let begun-before = h.session w.open-session in
+        let begun-before = h.session w.open_session in
         let c : Call = record { budget = n; old = old; answer = r; new = new } in
         let m = counts (calls all (budgets cs)) in
-        let q : rest s ≡ drop m all = h.left w.open-session in
+        let q : rest s ≡ drop m all = h.left w.open_session in
         let f = scan (drop m all) n in
         let pushed : calls all (budgets (cs ++ (c ∷ []))) ≡ calls all (budgets cs) ++ (f ∷ []) = ap (calls all) (budgets_push cs c) ∙ calls_push all (budgets cs) n in
         let sum : counts (calls all (budgets (cs ++ (c ∷ [])))) ≡ m + counted f = ap counts pushed ∙ counts_push (calls all (budgets cs)) f in
