@@ -10,7 +10,7 @@ use Rattle.model.specs.Reading.{among, is_named_once, does_record_fit, do_record
 use Rattle.model.specs.Values.{entries}
 use Rattle.model.specs.Drafts.{does_name}
 use Rattle.std.specs.List.{slice_get}
-use Rattle.kinds.specs.Demands.{Demands, demanded, nothing}
+use Rattle.kinds.specs.Demands.{Demands, demanded}
 use Rattle.kinds.specs.Laws.{Named, KeepsLaws, LawfulKinds}
 use Rattle.kinds.specs.Problems.{Asks, Laws, asks, together}
 use Rattle.kinds.specs.Theorems.{ProblemIsLawful}

@@ -1,26 +1,25 @@
 -- The moves of a marking space, over the meanings of its table. Assumes nothing.
-use Rattle.std.proofs.Common.{◌≡◌, ℕ, zero, suc, ◌+◌, ◌-◌, ◌<◌, ◌≤◌, min, Bool, true, false, cond, ◌≢◌, ◌⊎◌, List, [], ◌∷◌, length, get_or, set, Ok, Err, Result, sym, refl, ap, ◌∙◌, subst, inl, ⊎_elim, true≢false, add-one, arith, length-set, get_or-set_other, get_or-set_same}
+use Rattle.std.proofs.Common.{◌≡◌, ℕ, zero, suc, ◌+◌, ◌-◌, ◌<◌, ◌≤◌, min, Bool, true, false, ◌≢◌, List, [], ◌∷◌, length, get_or, set, Ok, Err, Result, sym, refl, ap, ◌∙◌, subst, true≢false, add-one, arith, length-set, get_or-set_other, get_or-set_same}
 use Rattle.tree.specs.Tables.{Table, Choice, kept, dropped}
-use Rattle.tree.specs.Filter.{Problem, Bounded, Node, failed, table, NodeOf}
+use Rattle.tree.specs.Filter.{Bounded, Node, table}
 use Rattle.model.specs.Values.{Value}
-use Rattle.tables.specs.States.{TableState, with_domains, with_saved, Within, Bounds}
+use Rattle.tables.specs.States.{TableState, with_domains, Within, Bounds}
 use Rattle.tables.specs.Calls.{Marks, KeepsOnly, Drops, Restores}
 use Rattle.stores.specs.declared.store.StoreFault.TheVariants.{Deep}
 use Rattle.tables.specs.declared.table.TableFault.{TableFault}
 use Rattle.tables.specs.declared.table.TableFault.TheVariants.{Store}
 use Rattle.kinds.specs.Demands.{Demands}
 use Rattle.kinds.specs.Problems.{problem}
-use Rattle.filtering.specs.Filters.{Filters, Begins}
-use Rattle.filtering.specs.declared.filter.Start.TheVariants.{Changed}
-use Rattle.spaces.specs.Pile.{SpaceState, piled, Ready, Settles, Stands}
+use Rattle.filtering.specs.Filters.{Filters}
+use Rattle.spaces.specs.Pile.{piled, Ready, Stands}
 use Rattle.spaces.specs.Tops.{shown, stacked, base_table}
-use Rattle.spaces.specs.Calls.{Puts, Enters, enters, Takes, takes, Turns, Leaves, state, of_top, Fails, has_open}
+use Rattle.spaces.specs.Calls.{Enters, Takes, Turns, Leaves, of_top}
 use Rattle.spaces.specs.declared.space.SpaceFault.{SpaceFault}
-use Rattle.spaces.specs.declared.space.SpaceFault.TheVariants.{Busy, Idle, Failed, NoChoice, Base, NoTake, Table as Passed}
+use Rattle.spaces.specs.declared.space.SpaceFault.TheVariants.{Busy, Failed, Table as Passed}
 use Rattle.spaces.proofs.Stand.{busy, entered, roomless, stuck, full, took, turned, stands-first, stands-taken, stands-dropped, stands_settled, takes-fewer}
 use Rattle.spaces.proofs.Singles.{takes-few}
-use Rattle.spaces.proofs.Filterings.{filtered, none_of, restored, begins_kept, begins_dropped}
-use Rattle.marking.specs.Marks.{back, oldest, younger, base_of, saved_of, pile_of, depth_over, marking, Running, Runs, Sound, Rewinds}
+use Rattle.spaces.proofs.Filterings.{filtered, none_of, restored}
+use Rattle.marking.specs.Marks.{back, oldest, younger, pile_of, depth_over, marking, Running, Runs, Sound, Rewinds}
 use Rattle.marking.specs.Laws.{back-length}
 
 younger_cons : (T : Table) (Ts : List Table) (k : ℕ) → length Ts ≡ suc k → younger (T ∷ Ts) ≡ table T ∷ younger Ts

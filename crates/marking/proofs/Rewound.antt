@@ -1,6 +1,5 @@
 -- Marks restored one by one. Assumes nothing.
-use Rattle.std.proofs.Common.{◌≡◌, ℕ, suc, ◌+◌, ◌<◌, List, [], ◌∷◌, length, Ok, Err, Result, sym, refl, ap, ◌∙◌, subst, arith}
-use Rattle.tree.specs.Tables.{Table}
+use Rattle.std.proofs.Common.{◌≡◌, ℕ, suc, ◌+◌, ◌<◌, [], length, Ok, Err, Result, sym, refl, ap, ◌∙◌, subst, arith}
 use Rattle.tables.specs.States.{TableState}
 use Rattle.tables.specs.Calls.{Restores}
 use Rattle.tables.specs.declared.table.TableFault.{TableFault}

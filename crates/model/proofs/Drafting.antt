@@ -1,6 +1,6 @@
 -- One more record in its places.
-use Rattle.std.proofs.Common.{◌≡◌, ℕ, zero, suc, ◌+◌, ◌-◌, ◌<◌, ◌≤◌, Bool, true, false, ◌&&◌, ◌||◌, eqb, leb, List, [], ◌∷◌, ◌++◌, map, length, get_or, take, drop, set, sym, refl, ap, ◌∙◌, subst, ap₂, ⊎_elim, arith}
-use Rattle.std.proofs.lemmas.List.{length-append, length-map, length-set, length-take-le, take-take, drop-take, take_at, drop_at, take_more_set, map_push, get_or-replicate}
+use Rattle.std.proofs.Common.{◌≡◌, ℕ, zero, suc, ◌+◌, ◌-◌, ◌<◌, ◌≤◌, Bool, true, false, ◌&&◌, ◌||◌, eqb, List, [], ◌∷◌, ◌++◌, map, length, get_or, take, drop, set, sym, refl, ap, ◌∙◌, ap₂, ⊎_elim, arith}
+use Rattle.std.proofs.lemmas.List.{length-map, length-set, length-take-le, take-take, drop-take, take_at, drop_at, take_more_set, map_push, get_or-replicate}
 use Rattle.std.proofs.lemmas.Bool.{and_parts, and_from, leb-true, le-leb, eq-eqb, ne_eqb, cases_eq}
 use Rattle.bits.specs.Bit.{has}
 use Rattle.bits.specs.declared.Set.{Set}
@@ -9,9 +9,9 @@ use Rattle.model.specs.declared.draft.Draft.{Draft}
 use Rattle.model.specs.declared.draft.Stored.{Stored}
 use Rattle.model.specs.declared.draft.Stored.TheVariants.{AtMost, Different}
 use Rattle.model.specs.declared.values.Term.{Term}
-use Rattle.model.specs.Values.{Value, Record, at_most, different, names, entries}
+use Rattle.model.specs.Values.{Record, at_most, different, names, entries}
 use Rattle.model.specs.Reading.{among, is_named_once, with_record}
-use Rattle.model.specs.Drafts.{stored_record, drafted, does_name, is_placed, are_placed, none, blank, Long, Noted, Tidy}
+use Rattle.model.specs.Drafts.{stored_record, drafted, does_name, is_placed, are_placed, none, blank, Noted, Tidy}
 use Rattle.std.proofs.ByRecursion.{All-weaker}
 use Rattle.std.specs.List.{AllByRecursion}
 use Rattle.model.proofs.Entries.{named-below}

@@ -1,5 +1,5 @@
 -- Layout and reading agree: what is accepted is laid out, and what is laid out is accepted.
-use Rattle.std.proofs.Common.{◌≡◌, ℕ, zero, suc, ◌+◌, ◌*◌, ◌/◌, ◌%◌, ◌<◌, ◌≤◌, Bool, true, false, not, ◌&&◌, ◌||◌, eqb, ltb, leb, ◌⊎◌, List, [], ◌∷◌, ◌++◌, map, length, get_or, drop, sym, refl, ap, ◌∙◌, subst, ap₂, inl, inr, ⊎_elim, arith, w16, w32, SFits, to_z, of_z}
+use Rattle.std.proofs.Common.{◌≡◌, ℕ, zero, suc, ◌+◌, ◌*◌, ◌/◌, ◌%◌, ◌<◌, ◌≤◌, true, false, not, ◌&&◌, ◌||◌, eqb, ltb, leb, List, [], ◌∷◌, ◌++◌, map, length, drop, sym, refl, ap, ◌∙◌, subst, ap₂, arith, w32, to_z, of_z}
 use borrow.Author.Gap.{read_sfits}
 use Rattle.std.proofs.ByRecursion.{All-push, All-drop}
 use Rattle.std.proofs.lemmas.List.{append-nil, append_assoc, length-append, length-map, drop_at, flat_map_more}
@@ -13,10 +13,10 @@ use Rattle.model.specs.declared.values.Term.{Term}
 use Rattle.model.specs.Values.{Value, Record, at_most, different, names, entries, Distinct, RecordValid, Valid}
 use Rattle.model.specs.Kinds.{shape}
 use Rattle.model.specs.Layout.{two_bytes, four_bytes, framed, window_bytes, term_bytes, windows_bytes, record_bytes, encode}
-use Rattle.model.specs.Reading.{word, long, body_length, count, extent, entry_bytes, window_at, term_at, variable_at, windows_in, terms_in, variables_in, bound_in, do_windows_fit, is_named_once, is_misfit, is_crowded, rows, with_record, extended, Step, broken, more, step, Outcome, accepted, refused, follow, read_rest, nothing, read_model}
+use Rattle.model.specs.Reading.{word, long, body_length, count, extent, entry_bytes, window_at, term_at, variable_at, windows_in, terms_in, variables_in, bound_in, do_windows_fit, is_named_once, is_misfit, rows, with_record, extended, Step, broken, more, step, accepted, refused, follow, read_rest, nothing, read_model}
 use Rattle.model.specs.Layout.{Bytes}
 use Rattle.model.proofs.Entries.{two_read, four_read, four_laid, windows-read, windows_laid, length-window_bytes, terms-read, terms_laid, length-term_bytes, terms-sized, terms-names, listed-read, listed_laid, length-entries, windows-valid, windows_pass, named-below, named_pass}
-use Rattle.model.proofs.Rows.{Read, number_of, step-read, read_step, Unbroken}
+use Rattle.model.proofs.Rows.{number_of, step-read, read_step, Unbroken}
 
 -- what is laid out is accepted
 

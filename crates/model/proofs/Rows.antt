@@ -1,12 +1,12 @@
 -- Rows of faults: a record is read exactly when it breaks none.
-use Rattle.std.proofs.Common.{◌≡◌, ℕ, ◌≤◌, Bool, true, false, cond, eqb, ltb, ◌⊎◌, List, [], ◌∷◌, length, Some, None, Option, sym, refl, ap, ◌∙◌, inl, inr, ⊎_elim, arith}
-use Rattle.std.proofs.lemmas.Bool.{ltb-false, le-ltb, eqb-true, cond-false, cases_Bool}
+use Rattle.std.proofs.Common.{◌≡◌, ℕ, ◌≤◌, Bool, true, false, cond, eqb, ltb, List, [], ◌∷◌, length, Some, None, Option, sym, refl, ap, ◌∙◌, arith}
+use Rattle.std.proofs.lemmas.Bool.{ltb-false, le-ltb, eqb-true, cond-false}
 use Rattle.std.specs.List.{AllByRecursion}
 use Rattle.model.specs.declared.form.RecordKind.{RecordKind}
 use Rattle.model.specs.declared.form.RecordKind.TheVariants.{Windows, AtMost, Different}
 use Rattle.model.specs.Kinds.{kind_of}
 use Rattle.model.specs.Values.{Value}
-use Rattle.model.specs.Reading.{word, rows, first_broken, extended, Step, broken, more, by_rows, by_kind, step}
+use Rattle.model.specs.Reading.{word, rows, first_broken, extended, broken, more, by_rows, by_kind, step}
 
 abbrev pub Unbroken : List (Bool × ℕ) → Type 0
 Unbroken = AllByRecursion (λ r. r.0 ≡ false)

@@ -1,15 +1,15 @@
 -- A record that is there as a whole: which of the later rows it breaks, or what is read with it.
-use Rattle.std.proofs.Common.{◌≡◌, ℕ, ◌+◌, ◌*◌, ◌<◌, ◌≤◌, Bool, true, false, not, ◌||◌, ltb, leb, ◌⊎◌, List, [], ◌∷◌, length, Some, None, sym, refl, ap, ◌∙◌, subst, ⊎_elim, arith}
+use Rattle.std.proofs.Common.{◌≡◌, ℕ, ◌+◌, ◌*◌, ◌<◌, ◌≤◌, Bool, true, false, ◌||◌, ltb, leb, ◌⊎◌, List, length, Some, None, refl, ap, ◌∙◌, subst, ⊎_elim, arith}
 use Rattle.std.proofs.lemmas.Bool.{cond-true, cond-false, le-ltb, lt-ltb, le-leb, lt-leb, or_left, or_right, or_from, not_from_false, not_from_true, true≢false}
 use Rattle.model.specs.declared.form.RecordKind.{RecordKind}
 use Rattle.model.specs.declared.form.RecordKind.TheVariants.{Windows, AtMost, Different}
 use Rattle.model.specs.Kinds.{shape}
 use Rattle.model.specs.Values.{Value, entries}
-use Rattle.model.specs.Reading.{count, extent, entry_bytes, windows_in, variables_in, do_windows_fit, is_named_once, is_misplaced, is_misfit, is_crowded, is_bad_window, is_bad_variable, rows, first_broken, extended, broken, more, by_rows, step}
+use Rattle.model.specs.Reading.{count, extent, entry_bytes, windows_in, variables_in, do_windows_fit, is_named_once, is_crowded, is_bad_window, is_bad_variable, rows, first_broken, extended, broken, more, by_rows, step}
 use Rattle.model.specs.Scans.{Whole}
-use Rattle.model.proofs.Layouts.{Fits, fitting}
+use Rattle.model.proofs.Layouts.{fitting}
 use Rattle.model.proofs.Heads.{known_step}
-use Rattle.model.proofs.Rows.{none_broken, Unbroken}
+use Rattle.model.proofs.Rows.{none_broken}
 
 module _ (first : Bool) (left : List ℕ) (k : RecordKind) (w : Whole first left k) (m : Value) where
   whole_row : ltb (length left) (extent left) ≡ false

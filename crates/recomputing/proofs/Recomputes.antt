@@ -1,7 +1,7 @@
 -- The moves of a recomputing space, over the meanings of its table. Assumes nothing.
-use Rattle.std.proofs.Common.{◌≡◌, ℕ, zero, suc, ◌+◌, ◌-◌, ◌<◌, ◌≤◌, Bool, true, false, List, [], ◌∷◌, length, set, Some, None, Ok, Err, Result, sym, refl, ap, ◌∙◌, subst, true≢false, add-one, arith, length-set}
+use Rattle.std.proofs.Common.{◌≡◌, ℕ, suc, ◌+◌, ◌-◌, ◌<◌, ◌≤◌, Bool, true, false, List, [], ◌∷◌, length, set, Some, Ok, Err, Result, sym, refl, ap, ◌∙◌, subst, true≢false, add-one, arith, length-set}
 use Rattle.tree.specs.Tables.{Table, Choice, kept, dropped}
-use Rattle.tree.specs.Filter.{Problem, Lawful, Bounded, Node, failed, table, NodeOf}
+use Rattle.tree.specs.Filter.{Problem, Bounded, Node, failed, table, NodeOf}
 use Rattle.tree.specs.Find.{node}
 use Rattle.tree.proofs.Tables.{kept-inside, dropped-inside}
 use Rattle.tree.proofs.Filter.{bounded-inside, node_unique}
@@ -14,17 +14,16 @@ use Rattle.tables.specs.declared.table.TableFault.{TableFault}
 use Rattle.tables.specs.declared.table.TableFault.TheVariants.{Store}
 use Rattle.kinds.specs.Demands.{Demands}
 use Rattle.kinds.specs.Problems.{problem}
-use Rattle.filtering.specs.Filters.{Filters, Begins}
-use Rattle.filtering.specs.declared.filter.Start.TheVariants.{Changed}
+use Rattle.filtering.specs.Filters.{Filters}
 use Rattle.spaces.specs.Pile.{SpaceState, piled, Ready, Stands}
 use Rattle.spaces.specs.Tops.{shown, stacked, base_table}
-use Rattle.spaces.specs.Calls.{Puts, Enters, Takes, Turns, Leaves, leaves, of_top}
+use Rattle.spaces.specs.Calls.{Enters, Takes, Turns, Leaves, of_top}
 use Rattle.spaces.specs.declared.space.SpaceFault.{SpaceFault}
 use Rattle.spaces.specs.declared.space.SpaceFault.TheVariants.{Busy, Failed, Table as Passed}
 use Rattle.spaces.proofs.Stand.{busy, entered, roomless, stuck, took, turned, stands_settled, takes-fewer}
-use Rattle.spaces.proofs.Filterings.{filtered, none_of, restored, begins_kept}
-use Rattle.recomputing.specs.Walk.{steps, decide, replayed, after, top, under, taken, Made, Walked, Ranged, last_take, Replays}
-use Rattle.recomputing.specs.Recomputed.{first, base_of, saved_of, pile_of, depth_over, recomputing, Running, Runs, Sound}
+use Rattle.spaces.proofs.Filterings.{filtered, none_of, restored}
+use Rattle.recomputing.specs.Walk.{steps, replayed, after, top, under, taken, Made, Walked, Ranged, last_take, Replays}
+use Rattle.recomputing.specs.Recomputed.{first, base_of, pile_of, depth_over, recomputing, Running, Runs, Sound}
 use Rattle.recomputing.specs.Laws.{base-bounded, depth-some}
 use Rattle.recomputing.specs.Walks as Walks
 use Rattle.recomputing.specs.declared.path.Step.{Step}

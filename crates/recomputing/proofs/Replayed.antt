@@ -1,5 +1,5 @@
 -- Replaying step by step. Assumes nothing.
-use Rattle.std.proofs.Common.{◌≡◌, ℕ, ◌+◌, ◌<◌, true, false, List, get_or, is_err, Ok, Err, Result, sym, ap, ◌∙◌, subst, true≢false, add-one}
+use Rattle.std.proofs.Common.{◌≡◌, ℕ, ◌+◌, ◌<◌, true, List, get_or, is_err, Ok, Err, Result, sym, ap, ◌∙◌, subst, true≢false, add-one}
 use Rattle.tables.specs.States.{TableState, with_domains}
 use Rattle.tables.specs.declared.table.TableFault.{TableFault}
 use Rattle.recomputing.specs.Walk.{steps, decide, replayed, variable, value, Replays}

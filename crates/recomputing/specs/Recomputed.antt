@@ -1,5 +1,5 @@
 -- What a recomputing space means: its nodes come of its base and its path. Assumes nothing.
-use Rattle.std.specs.Prelude.{◌≡◌, ℕ, zero, suc, ◌<◌, ◌≤◌, Bool, true, false, cond, List, [], ◌∷◌, length, ◌==◌}
+use Rattle.std.specs.Prelude.{◌≡◌, ℕ, ◌<◌, ◌≤◌, Bool, true, false, cond, List, [], ◌∷◌, length, ◌==◌}
 use Rattle.tree.specs.Tables.{Table}
 use Rattle.tree.specs.Filter.{Problem, Lawful, Node}
 use Rattle.model.specs.Values.{Value}

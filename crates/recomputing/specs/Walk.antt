@@ -1,5 +1,5 @@
 -- A path of steps, and the nodes along it. Assumes nothing.
-use Rattle.std.specs.Prelude.{◌≡◌, ℕ, zero, suc, ◌<◌, ◌≤◌, Bool, true, false, List, [], ◌∷◌, length, Some, None, Ok, Err, Option, Result, slice_index_or}
+use Rattle.std.specs.Prelude.{◌≡◌, ℕ, zero, suc, ◌<◌, ◌≤◌, Bool, List, [], ◌∷◌, length, Some, None, Ok, Err, Option, Result, slice_index_or}
 use Rattle.tree.specs.Tables.{Table, Choice, kept, dropped}
 use Rattle.tree.specs.Filter.{Problem, Node, failed, table}
 use Rattle.tree.specs.Find.{node}

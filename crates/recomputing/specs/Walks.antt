@@ -1,11 +1,11 @@
 -- The nodes along a path. Assumes nothing.
-use Rattle.std.specs.Prelude.{◌≡◌, ℕ, zero, suc, ◌+◌, ◌*◌, ◌<◌, ◌≤◌, Bool, true, false, cond, ◌≢◌, ◌⊎◌, List, [], ◌∷◌, ◌++◌, length, get_or, Some, None, Option, slice_index_or, slice_set, refl}
-use Rattle.std.proofs.Common.{sym, ap, ◌∙◌, subst, inl, inr, ⊎_elim, arith, mul-le-mul, add-one, length-append, get_or-set_same, get_or-set_other}
-use Rattle.std.proofs.lemmas.Bool.{cases_eq, cases_Bool}
-use Rattle.tree.specs.Tables.{Table, Inside, Open, Choice, kept, dropped}
-use Rattle.tree.specs.Filter.{Problem, Lawful, Bounded, Fits, Filtered, Node, failed, table, NodeOf}
+use Rattle.std.specs.Prelude.{◌≡◌, ℕ, zero, suc, ◌+◌, ◌*◌, ◌<◌, ◌≤◌, true, ◌≢◌, List, [], ◌∷◌, length, get_or, Some, None, slice_index_or, slice_set, refl}
+use Rattle.std.proofs.Common.{sym, ap, ◌∙◌, subst, ⊎_elim, arith, mul-le-mul, add-one, get_or-set_same, get_or-set_other}
+use Rattle.std.proofs.lemmas.Bool.{cases_eq}
+use Rattle.tree.specs.Tables.{Table, Inside, Choice, kept, dropped}
+use Rattle.tree.specs.Filter.{Problem, Lawful, Bounded, Node, failed, table, NodeOf}
 use Rattle.tree.specs.Find.{node, grid, total}
-use Rattle.tree.proofs.Tables.{inside_trans, kept-inside, dropped-inside, kept-is, dropped-not}
+use Rattle.tree.proofs.Tables.{inside_trans, kept-inside, dropped-inside}
 use Rattle.tree.proofs.Filter.{bounded-inside, node_unique, kept-once, dropped-once}
 use Rattle.tree.proofs.Exists.{node-is}
 use Rattle.tree.proofs.Pairs.{count-inside, count-grid, kept_less, dropped_less}

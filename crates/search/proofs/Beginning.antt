@@ -1,14 +1,12 @@
 -- Opening a search, and entering its space.
-use Rattle.std.proofs.Common.{◌≡◌, ℕ, ◌<◌, ◌≤◌, Bool, true, false, List, [], ◌∷◌, Ok, Err, sym, refl, ap, ◌∙◌, subst, true≢false}
-use Rattle.tree.specs.Tables.{Table}
+use Rattle.std.proofs.Common.{◌≡◌, ℕ, ◌<◌, ◌≤◌, true, false, List, [], ◌∷◌, Ok, sym, refl, ap, subst, true≢false}
 use Rattle.tree.specs.Filter.{Bounded, Node}
 use Rattle.tree.specs.Search.{Rule}
 use Rattle.tables.specs.States.{Within}
-use Rattle.spaces.specs.Pile.{SpaceState, piled, Ready, Standing}
+use Rattle.spaces.specs.Pile.{SpaceState, piled, Standing}
 use Rattle.spaces.specs.Calls.{enters, Enters}
 use Rattle.search.specs.Choosing.{ruling}
-use Rattle.search.specs.Remaining.{Sitting}
-use Rattle.search.specs.Sessions.{SearchState, view, Sits, Sound, Begun}
+use Rattle.search.specs.Sessions.{view, Sits, Sound, Begun}
 use Rattle.search.specs.declared.search.Search.{Search}
 
 -- without a node no choice stands

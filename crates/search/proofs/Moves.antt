@@ -1,14 +1,14 @@
 -- What the moves of a space do to what is still to visit.
-use Rattle.std.proofs.Common.{◌≡◌, ℕ, zero, suc, ◌<◌, ◌≤◌, Bool, true, false, List, [], ◌∷◌, ◌++◌, length, Some, None, Option, sym, refl, ap, ◌∙◌, subst, ap₂, true≢false, arith}
+use Rattle.std.proofs.Common.{◌≡◌, ℕ, true, List, [], ◌∷◌, ◌++◌, Some, Option, sym, ap, ◌∙◌}
 use Rattle.std.proofs.lemmas.List.{append_assoc, append-nil}
 use Rattle.tree.specs.Tables.{Table, kept, dropped}
-use Rattle.tree.specs.Filter.{Problem, Lawful, Bounded, Node, failed, table, NodeOf}
+use Rattle.tree.specs.Filter.{Problem, Lawful, Bounded, Node, table, NodeOf}
 use Rattle.tree.specs.Search.{Rule, Picks, Visit, nodes}
 use Rattle.tree.specs.Find.{node, tree, visit, under, parts}
 use Rattle.tree.proofs.Exists.{node-is}
-use Rattle.tree.proofs.Filter.{node_unique, kept-bounded, dropped-bounded}
+use Rattle.tree.proofs.Filter.{node_unique}
 use Rattle.tree.proofs.Trees.{nodes-under}
-use Rattle.search.specs.Remaining.{rights, later, remaining, Made, Forked, Sitting}
+use Rattle.search.specs.Remaining.{rights, later, remaining}
 
 module _ (P : Problem) (R : Rule) (laws : Lawful P) (picks : Picks P R) where
   -- the nodes of a tree whose root is N

@@ -1,11 +1,11 @@
 -- A scan of the domains finds the preferred variable.
-use Rattle.std.proofs.Common.{◌≡◌, ℕ, zero, suc, ◌+◌, ◌-◌, ◌<◌, ◌≤◌, Bool, true, false, cond, ltb, ◌⊎◌, List, [], ◌∷◌, length, Some, None, Ok, Err, Option, Result, sym, refl, ap, ◌∙◌, subst, inl, inr, ⊎_elim, arith}
+use Rattle.std.proofs.Common.{◌≡◌, ℕ, zero, suc, ◌+◌, ◌-◌, ◌<◌, ◌≤◌, Bool, true, false, ltb, ◌⊎◌, List, [], ◌∷◌, length, Some, None, Ok, Err, Option, sym, refl, ap, ◌∙◌, subst, inl, inr, ⊎_elim, arith}
 use Rattle.std.proofs.lemmas.Bool.{and_from, both_ways, cases_Bool, cond-true, cond-false, ltb-true, ltb-false, lt-ltb, le-ltb, eqb-true}
 use Rattle.tree.specs.Tables.{Table}
 use Rattle.tree.specs.Filter.{Node, failed, table}
 use Rattle.tree.specs.Domains.{size, has_some}
 use Rattle.tree.specs.Find.{is_full}
-use Rattle.tree.specs.Rules.{lowest, smaller, smallest}
+use Rattle.tree.specs.Rules.{smaller, smallest}
 use Rattle.tree.proofs.Domains.{has_some_from, size-one, size-has}
 use Rattle.tree.proofs.Exists.{is_full_from, is_full_to}
 use Rattle.tables.specs.States.{Within}

@@ -1,19 +1,18 @@
 -- A call with a budget, visit by visit.
-use Rattle.std.proofs.Common.{◌≡◌, ℕ, zero, suc, ◌+◌, ◌-◌, ◌<◌, ◌≤◌, Bool, true, false, List, [], ◌∷◌, ◌++◌, length, drop, Some, None, Option, sym, refl, ap, ◌∙◌, subst, ap₂, true≢false, arith}
+use Rattle.std.proofs.Common.{◌≡◌, ℕ, suc, ◌+◌, ◌-◌, ◌<◌, ◌≤◌, true, false, List, [], ◌∷◌, ◌++◌, length, drop, Some, None, sym, refl, ap, ◌∙◌, subst, true≢false, arith}
 use Rattle.std.proofs.lemmas.List.{drop-drop}
 use Rattle.tree.specs.Tables.{single}
 use Rattle.tree.specs.Filter.{Problem, Lawful, Node, table, NodeOf}
 use Rattle.tree.specs.Search.{Rule, Picks, Visit, is_failed, is_open, is_plan, visited}
 use Rattle.tree.specs.Find.{visit}
-use Rattle.tree.specs.Budget.{Answer as Found, planned, done, spent, plus, scan, counted, left_by}
+use Rattle.tree.specs.Budget.{Answer as Found, planned, done, spent, plus, scan, counted}
 use Rattle.tree.proofs.Budgets.{plus-zero, plus-plus}
 use Rattle.tree.proofs.Trees.{visited-visit, plan_long}
 use Rattle.spaces.specs.Pile.{SpaceState, piled}
 use Rattle.spaces.specs.declared.space.State.{State}
-use Rattle.spaces.specs.declared.space.State.TheVariants.{Open as Now-open, Plan as Now-plan, Failed as Now-failed}
+use Rattle.spaces.specs.declared.space.State.TheVariants.{Plan as Now-plan}
 use Rattle.search.specs.Remaining.{Made, Sitting}
-use Rattle.search.specs.Sessions.{SearchState, variables, rest, told, row_after, Went, state_of, Visits, Stepped, none_left, Copied}
-use Rattle.search.specs.declared.search.Answer.{Answer}
+use Rattle.search.specs.Sessions.{SearchState, variables, rest, told, row_after, Went, Visits, Stepped, none_left}
 use Rattle.search.specs.declared.search.Answer.TheVariants.{Plan, Done, Spent}
 
 -- after k visits without a plan

@@ -1,10 +1,10 @@
 -- One visit more: what a space tells of its top, and where a take or a turn leads.
-use Rattle.std.proofs.Common.{◌≡◌, ℕ, zero, suc, ◌<◌, ◌≤◌, Bool, true, false, cond, leb, ◌⊎◌, List, [], ◌∷◌, ◌++◌, length, Some, None, Ok, Err, Option, Result, sym, refl, ap, ◌∙◌, subst, ap₂, subst₂, inl, inr, ⊎_elim, true≢false, arith}
+use Rattle.std.proofs.Common.{◌≡◌, ℕ, suc, ◌<◌, ◌≤◌, Bool, true, false, cond, leb, List, [], ◌∷◌, ◌++◌, length, Some, None, Ok, Err, Option, sym, refl, ap, ◌∙◌, subst, subst₂, ⊎_elim, arith}
 use Rattle.std.proofs.lemmas.List.{append_assoc}
 use Rattle.std.proofs.lemmas.Bool.{lt-leb}
-use Rattle.tree.specs.Tables.{Table, Open, Choice, kept, dropped}
-use Rattle.tree.specs.Filter.{Problem, Lawful, Bounded, Node, failed, table, NodeOf, Filtered}
-use Rattle.tree.specs.Search.{Rule, Picks, Tree, dead, plan, fork, Visit, is_failed, is_open, is_plan, nodes}
+use Rattle.tree.specs.Tables.{Table, Choice, kept, dropped}
+use Rattle.tree.specs.Filter.{Problem, Lawful, Node, failed, table, NodeOf}
+use Rattle.tree.specs.Search.{Rule, Picks, Tree, dead, plan, fork, Visit, nodes}
 use Rattle.tree.specs.Find.{tree, visit, under, found, parts}
 use Rattle.tree.proofs.Filter.{filtered_bounded, kept-bounded, dropped-bounded}
 use Rattle.tree.proofs.Trees.{picked, unpicked}
@@ -16,7 +16,7 @@ use Rattle.spaces.specs.declared.space.State.TheVariants.{Open as Now-open, Plan
 use Rattle.spaces.proofs.Opens.{has_open_to, has_open_none}
 use Rattle.spaces.proofs.Stand.{takes-fewer}
 use Rattle.search.specs.Choosing.{at_top, ruling}
-use Rattle.search.specs.Remaining.{rights, later, remaining, Made, Forked, Sitting}
+use Rattle.search.specs.Remaining.{rights, later, remaining, Made, Sitting}
 use Rattle.search.specs.Sessions.{state_of, view, rest, Sound, Visits, Steps, none_left}
 use Rattle.search.specs.declared.search.Search.{Search}
 use Rattle.search.proofs.Moves.{took, turned}

@@ -1,9 +1,9 @@
 -- The law over runs.
-use Rattle.std.proofs.Common.{◌≡◌, ℕ, zero, suc, ◌+◌, ◌<◌, ◌≤◌, Bool, true, false, ◌||◌, ◌⊎◌, List, [], ◌∷◌, ◌++◌, length, take, drop, Ok, Err, Result, sym, refl, ap, ◌∙◌, subst, ap₂, inl, inr, true≢false, arith}
+use Rattle.std.proofs.Common.{◌≡◌, ℕ, ◌+◌, ◌<◌, ◌≤◌, Bool, true, false, ◌||◌, List, [], ◌∷◌, ◌++◌, length, take, drop, Ok, Err, sym, refl, ap, ◌∙◌, subst, ap₂, inl, inr, true≢false, arith}
 use Rattle.std.proofs.lemmas.List.{take_at, drop-drop}
 use Rattle.tree.specs.Tables.{Table}
-use Rattle.tree.specs.Filter.{Problem, Lawful, Bounded, Node, NodeOf}
-use Rattle.tree.specs.Search.{Rule, Picks, Tree, TreeOf, Visit, nodes, plans, plans_among, Listed, Front}
+use Rattle.tree.specs.Filter.{Problem, Lawful, Bounded, Node}
+use Rattle.tree.specs.Search.{Rule, Picks, Visit, nodes, plans, plans_among, Listed, Front}
 use Rattle.tree.specs.Find.{tree}
 use Rattle.tree.specs.Budget.{Answer as Found, planned, done, spent, scan, counted, left_by, calls, counts, gives, ends}
 use Rattle.tree.specs.Theorems.{Plans}
@@ -13,10 +13,9 @@ use Rattle.tree.proofs.Plans.{sound as plans-sound, complete, apart, ordered}
 use Rattle.tables.specs.States.{Within}
 use Rattle.spaces.specs.Pile.{SpaceState, piled}
 use Rattle.spaces.specs.Calls.{enters, Enters}
-use Rattle.search.specs.Sessions.{SearchState, variables, rest, Begun, Went, Begins, Nexts, Closes, told, row_after}
-use Rattle.search.specs.Runs.{Event, began, asked, closed, Runs, rests, begins, asks, closes, Call, since, begun, budgets, count, total, gave, given, is_done, finished, Answered, AllAnswered, Lists, Law}
+use Rattle.search.specs.Sessions.{SearchState, rest, Begun, Went, told, row_after}
+use Rattle.search.specs.Runs.{Event, Runs, rests, begins, asks, closes, Call, since, begun, budgets, count, total, gave, given, is_done, finished, Answered, AllAnswered, Lists, Law}
 use Rattle.search.specs.declared.search.Answer.{Answer}
-use Rattle.search.specs.declared.search.Answer.TheVariants.{Plan, Done, Spent}
 use Rattle.search.proofs.Moves.{entered}
 
 -- one call more

@@ -1,6 +1,4 @@
 -- Both rules keep the law of rules. Assumes nothing.
-use Rattle.std.specs.Prelude.{ℕ}
-use Rattle.tree.specs.Tables.{Table}
 use Rattle.tree.specs.Filter.{Problem}
 use Rattle.tree.specs.Search.{Picks}
 use Rattle.tree.specs.Rules.{first, small}

@@ -2,7 +2,7 @@
 use Rattle.std.specs.Prelude.{◌≡◌, ℕ, ◌+◌, ◌≤◌, Bool, true, false, ◌||◌, List, [], ◌∷◌, ◌++◌, length, take, drop, Ok, Err, Result}
 use Rattle.tree.specs.Tables.{Table}
 use Rattle.tree.specs.Filter.{Problem}
-use Rattle.tree.specs.Search.{Rule, Tree, TreeOf, nodes, plans, plans_among, Front}
+use Rattle.tree.specs.Search.{Tree, TreeOf, nodes, plans, plans_among, Front}
 use Rattle.tree.specs.Budget.{Answer as Found, planned, done, spent, calls}
 use Rattle.tree.specs.Theorems.{Plans}
 use Rattle.search.specs.Sessions.{SearchState, Begins, Nexts, Closes}

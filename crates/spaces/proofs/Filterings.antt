@@ -1,8 +1,8 @@
 -- Filtering in the words of nodes, after a decision and from the base. Assumes nothing.
-use Rattle.std.proofs.Common.{◌≡◌, ℕ, Bool, true, false, not, ◌&&◌, ◌||◌, eqb, ◌≢◌, List, [], ◌∷◌, length, Ok, sym, refl, ap, ◌∙◌, subst, ⊎_elim, arith}
+use Rattle.std.proofs.Common.{◌≡◌, ℕ, Bool, true, false, not, ◌&&◌, ◌||◌, eqb, ◌≢◌, List, [], ◌∷◌, length, Ok, sym, refl, ap, ◌∙◌, subst, arith}
 use Rattle.std.proofs.lemmas.Bool.{ne_eqb}
 use Rattle.tree.specs.Tables.{Table, kept, dropped}
-use Rattle.tree.specs.Filter.{Problem, Node, NodeOf}
+use Rattle.tree.specs.Filter.{Problem, NodeOf}
 use Rattle.model.specs.Values.{Value}
 use Rattle.tables.specs.States.{TableState, with_domains}
 use Rattle.tables.specs.Calls.{Restores}

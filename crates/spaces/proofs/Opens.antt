@@ -1,8 +1,8 @@
 -- Open variables, by the size of their domains. Assumes nothing.
-use Rattle.std.proofs.Common.{◌≡◌, ℕ, suc, ◌+◌, ◌<◌, ◌≤◌, Bool, true, false, ◌||◌, ltb, sym, ap, ◌∙◌, subst, ⊎_elim, add-one}
-use Rattle.std.proofs.lemmas.Bool.{cases_Bool, both_ways, or_from, lt-ltb, le-ltb, ltb-true}
+use Rattle.std.proofs.Common.{◌≡◌, ℕ, ◌+◌, ◌<◌, ◌≤◌, true, false, ltb, sym, ap, ◌∙◌, subst, add-one}
+use Rattle.std.proofs.lemmas.Bool.{both_ways, or_from, lt-ltb, le-ltb, ltb-true}
 use Rattle.tree.specs.Tables.{Table, Open}
-use Rattle.tree.specs.Domains.{size, has_some}
+use Rattle.tree.specs.Domains.{size}
 use Rattle.tree.proofs.Domains.{size_open, open_size, has_some_from, has_some_to}
 use Rattle.tables.specs.States.{TableState, Within, Bounds}
 use Rattle.spaces.specs.Calls.{has_open}

@@ -1,12 +1,12 @@
 -- Takes never outnumber the variables: with k takes standing at least k variables are single. Assumes nothing.
-use Rattle.std.proofs.Common.{◌≡◌, ℕ, zero, suc, ◌<◌, ◌≤◌, Bool, true, false, cond, leb, ◌⊎◌, List, [], ◌∷◌, length, sym, refl, ap, ◌∙◌, subst, ⊎_elim, true≢false, arith}
+use Rattle.std.proofs.Common.{◌≡◌, ℕ, zero, suc, ◌<◌, ◌≤◌, Bool, true, false, cond, leb, List, [], ◌∷◌, length, sym, refl, ap, ◌∙◌, subst, ⊎_elim, true≢false, arith}
 use Rattle.std.proofs.lemmas.Bool.{cases_Bool, cases_eq, leb-true, leb-false, le-leb, lt-leb}
-use Rattle.tree.specs.Tables.{Table, Inside, Open, Choice, kept}
+use Rattle.tree.specs.Tables.{Table, Inside, Open, kept}
 use Rattle.tree.specs.Domains.{size}
 use Rattle.tree.specs.Filter.{Problem, Bounded, Node, failed, table}
 use Rattle.tree.proofs.Tables.{inside_trans, kept-inside, kept-is}
 use Rattle.tree.proofs.Domains.{size_open, open_size}
-use Rattle.spaces.specs.Pile.{Settled, Stands, singles, Few}
+use Rattle.spaces.specs.Pile.{Stands, singles, Few}
 
 -- sizes of sets, one inside the other
 

@@ -1,10 +1,10 @@
 -- How a pile stands before and after a move. Assumes nothing.
-use Rattle.std.proofs.Common.{◌≡◌, ℕ, suc, ◌<◌, ◌≤◌, List, [], ◌∷◌, length, Ok, Err, Result, sym, refl, subst, inr, arith}
+use Rattle.std.proofs.Common.{◌≡◌, ℕ, suc, ◌<◌, ◌≤◌, List, [], ◌∷◌, length, Ok, Err, sym, refl, subst, inr, arith}
 use Rattle.tree.specs.Tables.{Table, Inside, Choice, kept, dropped}
 use Rattle.tree.specs.Filter.{Problem, Bounded, Node, failed, table, NodeOf}
 use Rattle.tree.proofs.Tables.{inside_trans, kept-inside, dropped-inside}
 use Rattle.tree.proofs.Filter.{bounded-inside}
-use Rattle.spaces.specs.Pile.{SpaceState, Ready, Settled, Settles, Below, Stands, Few}
+use Rattle.spaces.specs.Pile.{SpaceState, Ready, Settles, Below, Stands}
 use Rattle.spaces.specs.Calls.{Puts, Unmarked, enters, takes, turns, Enters, Takes, Turns}
 use Rattle.spaces.specs.declared.space.SpaceFault.{SpaceFault}
 use Rattle.spaces.specs.declared.space.SpaceFault.TheVariants.{Busy, Failed}

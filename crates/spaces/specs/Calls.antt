@@ -3,7 +3,7 @@ use Rattle.std.specs.Prelude.{◌≡◌, ℕ, suc, ◌<◌, ◌≤◌, Bool, con
 use Rattle.bits.specs.Bit.{Least, Greatest}
 use Rattle.tree.specs.Tables.{Table, Choice, kept, dropped}
 use Rattle.tree.specs.Domains.{size, has_some}
-use Rattle.tree.specs.Filter.{Problem, Node, failed, table, NodeOf}
+use Rattle.tree.specs.Filter.{Node, failed, table, NodeOf}
 use Rattle.stores.specs.declared.store.StoreFault.TheVariants.{Deep}
 use Rattle.tables.specs.Calls.{number as table-number, place as table-place}
 use Rattle.tables.specs.declared.table.TableFault.{TableFault}

@@ -1,5 +1,5 @@
 -- What a space means, and what holds of every sound one. Assumes nothing.
-use Rattle.std.specs.Prelude.{◌≡◌, ℕ, ◌<◌, ◌≤◌, Bool, true, List, [], ◌∷◌, length, nat_le}
+use Rattle.std.specs.Prelude.{◌≡◌, ℕ, ◌≤◌, true, List, [], ◌∷◌, length, nat_le}
 use Rattle.tree.specs.Tables.{Table, Inside, Choice, kept}
 use Rattle.tree.specs.Domains.{size}
 use Rattle.tree.specs.Filter.{Problem, Lawful, Bounded, Full, Node, failed, table}

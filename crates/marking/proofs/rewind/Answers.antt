@@ -1,5 +1,5 @@
-use Rattle.std.proofs.Common.{◌≡◌, ℕ, suc, arith}
-use Rattle.marking.proofs.Rewound.{along_none, along_more, rewound, still_marked}
+use Rattle.std.proofs.Common.{◌≡◌, arith}
+use Rattle.marking.proofs.Rewound.{along_none, along_more, rewound}
 use Rattle.marking.proofs.rewind.Goals as goal
 
 pub loop-mark-init : goal.loop-mark-init

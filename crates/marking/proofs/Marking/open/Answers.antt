@@ -1,4 +1,4 @@
-use Rattle.std.proofs.Common.{length, refl}
+use Rattle.std.proofs.Common.{refl}
 use Rattle.model.specs.Meaning.{means as model-means}
 use Rattle.kinds.proofs.Validity.{problem-lawful, few_variables}
 use Rattle.marking.proofs.Marking.open.Goals as goal

@@ -1,4 +1,4 @@
-use Rattle.std.proofs.Common.{◌≡◌, ℕ, suc, ◌-◌, get_or, sym, refl, ap, ◌∙◌, subst, ⊎_elim, arith}
+use Rattle.std.proofs.Common.{◌≡◌, suc, ◌-◌, get_or, ap, ◌∙◌, ⊎_elim, arith}
 use Rattle.model.specs.Meaning.{means as model-means}
 use Rattle.spaces.proofs.Filterings.{begins_dropped}
 use Rattle.marking.specs.Marks.{Sound}

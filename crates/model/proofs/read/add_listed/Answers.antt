@@ -1,10 +1,10 @@
-use Rattle.std.proofs.Common.{◌≡◌, ℕ, ◌+◌, ◌≤◌, length, take, drop, sym, refl, ap, ◌∙◌, ap₂, arith}
+use Rattle.std.proofs.Common.{◌+◌, ◌≤◌, length, take, drop, sym, refl, ap, ◌∙◌, ap₂, arith}
 use Rattle.std.proofs.lemmas.List.{drop-drop}
 use Rattle.std.proofs.lemmas.Bool.{le-leb}
 use Rattle.model.specs.declared.draft.Draft.{Draft}
 use Rattle.model.specs.declared.draft.Stored.{Stored}
 use Rattle.model.specs.declared.draft.Stored.TheVariants.{Different}
-use Rattle.model.specs.Values.{Record, different}
+use Rattle.model.specs.Values.{different}
 use Rattle.model.specs.Reading.{variable_at, variables_in, with_record}
 use Rattle.model.specs.Drafts.{drafted}
 use Rattle.model.proofs.Entries.{length-entries}

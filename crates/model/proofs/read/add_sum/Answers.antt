@@ -1,4 +1,4 @@
-use Rattle.std.proofs.Common.{◌≡◌, ℕ, ◌+◌, ◌≤◌, ◌&&◌, ◌||◌, eqb, List, map, length, get_or, take, drop, ℤ, sym, refl, ap, ◌∙◌, ap₂, arith, w32, to_z, of_z}
+use Rattle.std.proofs.Common.{◌≡◌, ◌+◌, ◌≤◌, ◌&&◌, ◌||◌, eqb, map, length, get_or, take, drop, sym, refl, ap, ◌∙◌, ap₂, arith, w32, to_z, of_z}
 use Rattle.std.proofs.lemmas.List.{drop-drop, length-map}
 use Rattle.std.proofs.lemmas.Int.{to_z-of_z}
 use Rattle.bits.specs.Bit.{has}
@@ -8,8 +8,8 @@ use Rattle.std.proofs.lemmas.Bool.{le-leb}
 use Rattle.model.specs.declared.draft.Draft.{Draft}
 use Rattle.model.specs.declared.draft.Stored.{Stored}
 use Rattle.model.specs.declared.draft.Stored.TheVariants.{AtMost}
-use Rattle.model.specs.Values.{Record, at_most}
-use Rattle.model.specs.Reading.{term_at, terms_in, variables_in, bound_in, among, with_record}
+use Rattle.model.specs.Values.{at_most}
+use Rattle.model.specs.Reading.{term_at, terms_in, bound_in, among, with_record}
 use Rattle.model.specs.Drafts.{drafted, none}
 use Rattle.model.proofs.Entries.{length-entries, terms-names}
 use Rattle.model.proofs.Drafting.{Adds, added, added_tidy, filled_front, filled_part, variables-below}

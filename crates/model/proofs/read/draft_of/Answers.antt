@@ -1,13 +1,12 @@
-use Rattle.std.proofs.Common.{◌≡◌, ℕ, zero, suc, ◌+◌, ◌<◌, ◌≤◌, true, false, List, [], length, get_or, drop, sym, ap, ◌∙◌, subst, ap₂, arith}
+use Rattle.std.proofs.Common.{◌≡◌, ℕ, zero, suc, ◌+◌, ◌<◌, ◌≤◌, true, false, List, [], length, drop, sym, ap, ◌∙◌, subst, ap₂, arith}
 use Rattle.std.proofs.ByRecursion.{All-from_get_or}
 use Rattle.std.proofs.lemmas.Result.{err_from_is_err_and}
 use Rattle.std.proofs.lemmas.List.{drop-drop, drop_all, length-drop}
 use Rattle.model.specs.declared.draft.Draft.{Draft}
 use Rattle.model.specs.Faults.{number}
 use Rattle.model.specs.Values.{Value}
-use Rattle.model.specs.Reading.{extent, nothing, step, broken, more, follow, read_rest, read_model, Outcome, accepted, refused}
+use Rattle.model.specs.Reading.{extent, nothing, step, more, follow, read_rest, read_model, refused}
 use Rattle.model.specs.Drafts.{Tidy, drafted}
-use Rattle.model.specs.Scans.{Took}
 use Rattle.model.proofs.Drafting.{blank-tidy}
 use Rattle.model.proofs.Layouts.{unroll}
 use Rattle.model.proofs.read.draft_of.Goals as goal

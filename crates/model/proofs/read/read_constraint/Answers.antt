@@ -1,4 +1,4 @@
-use Rattle.std.proofs.Common.{◌≡◌, ℕ, ◌+◌, ◌-◌, ◌*◌, ◌<◌, ◌≤◌, Bool, true, false, List, length, get_or, drop, sym, refl, ap, ◌∙◌, ap₂, inl, inr, arith}
+use Rattle.std.proofs.Common.{◌≡◌, ℕ, ◌+◌, ◌-◌, ◌*◌, ◌≤◌, false, List, length, get_or, drop, sym, refl, ap, ◌∙◌, ap₂, inl, inr, arith}
 use Rattle.std.proofs.lemmas.List.{get_or-drop, length-drop, drop-drop}
 use Rattle.model.specs.declared.draft.Draft.{Draft}
 use Rattle.model.specs.declared.form.RecordKind.{RecordKind}
@@ -7,7 +7,7 @@ use Rattle.model.specs.Kinds.{shape}
 use Rattle.model.specs.Values.{entries}
 use Rattle.model.specs.Reading.{count, entry_bytes, variables_in, is_named_once, more}
 use Rattle.model.specs.Drafts.{Tidy, drafted}
-use Rattle.model.specs.Scans.{Whole, Ready}
+use Rattle.model.specs.Scans.{Whole}
 use Rattle.model.proofs.Drafting.{drafted-records, drafted-windows}
 use Rattle.model.proofs.Steps.{crowded_step, variable-step, record_step, whole-size, each-some}
 use Rattle.model.proofs.read.read_constraint.Goals as goal

@@ -1,11 +1,10 @@
-use Rattle.std.proofs.Common.{◌≡◌, ℕ, ◌+◌, ◌*◌, ◌<◌, ◌≤◌, Bool, true, false, List, length, get_or, take, drop, sym, refl, ap, ◌∙◌, ap₂, arith}
+use Rattle.std.proofs.Common.{◌≡◌, ◌+◌, true, get_or, take, drop, sym, ap, ◌∙◌, arith}
 use Rattle.std.proofs.lemmas.List.{take_at}
 use Rattle.model.specs.declared.form.RecordKind.TheVariants.{Windows}
 use Rattle.model.specs.Reading.{more, window_at, windows_in}
-use Rattle.model.specs.Drafts.{Tidy, drafted}
-use Rattle.model.specs.Scans.{Whole}
+use Rattle.model.specs.Drafts.{drafted}
 use Rattle.model.proofs.Entries.{length-entries}
-use Rattle.model.proofs.Steps.{windows-whole, window_step, windows-step, whole-size}
+use Rattle.model.proofs.Steps.{windows-whole, windows-step, whole-size}
 use Rattle.model.proofs.read.read_windows.Goals as goal
 
 pub returns : goal.returns

@@ -1,4 +1,4 @@
-use Rattle.std.proofs.Common.{sym, ◌∙◌, ⊎_elim}
+use Rattle.std.proofs.Common.{sym, ◌∙◌}
 use Rattle.model.proofs.Scanning.{window_passes, window_empty, window_beyond}
 use Rattle.model.proofs.scan.windows_fit.Goals as goal
 use Rattle.model.proofs.scan.windows_fit.Goals.{then-low-high-via-then-low-high, then-low-high-via-else-low-high+then-high-gt64}

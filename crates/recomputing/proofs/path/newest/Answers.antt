@@ -1,4 +1,4 @@
-use Rattle.std.proofs.Common.{◌≡◌, ℕ, suc, ◌-◌, ◌≤◌, sym, refl, ap, ◌∙◌, subst, arith}
+use Rattle.std.proofs.Common.{◌≡◌, suc, ◌-◌, ◌∙◌, arith}
 use Rattle.recomputing.specs.Walks.{found_take, skip_drop}
 use Rattle.recomputing.proofs.path.newest.Goals as goal
 

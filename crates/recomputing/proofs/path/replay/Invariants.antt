@@ -1,4 +1,4 @@
-use Rattle.std.proofs.Common.{◌≡◌, ◌≤◌}
+use Rattle.std.proofs.Common.{◌≡◌}
 use Rattle.tables.specs.States.{with_domains}
 use Rattle.recomputing.specs.Walk.{steps, replayed}
 use Rattle.recomputing.proofs.path.replay.Given as goal

@@ -1,7 +1,6 @@
-use Rattle.std.proofs.Common.{◌≡◌, ◌+◌, ◌<◌, ltb, Ok, sym, ap, ◌∙◌, subst, arith}
+use Rattle.std.proofs.Common.{◌+◌, ◌<◌, ltb, sym, ◌∙◌, subst, arith}
 use Rattle.std.proofs.lemmas.Bool.{ltb-true}
-use Rattle.spaces.specs.Calls.{Sizes}
-use Rattle.search.proofs.Preferring.{ScannedOn, refused, empty, scan_begins, scan-ends, scan_closed, scan-taken, scan-kept, scan-settles}
+use Rattle.search.proofs.Preferring.{ScannedOn, refused, empty, scan_begins, scan_closed, scan-taken, scan-kept, scan-settles}
 use Rattle.search.proofs.rule.preferred.Goals as goal
 use Rattle.search.proofs.rule.preferred.Goals.{then-size-gt1+then-replaces+else-settles, else-size-gt1, else-size-gt1-via-then-size-gt1+else-replaces, else-size-gt1-via-else-size-gt1}
 

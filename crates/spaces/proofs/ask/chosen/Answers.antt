@@ -1,4 +1,4 @@
-use Rattle.std.proofs.Common.{◌≡◌, ℕ, true, false, sym, refl, ◌∙◌, ⊎_elim, true≢false, arith, ltb-true}
+use Rattle.std.proofs.Common.{sym, ◌∙◌, ⊎_elim, true≢false, arith, ltb-true}
 use Rattle.spaces.proofs.Opens.{open_from, open_above, open_bound}
 use Rattle.spaces.proofs.ask.chosen.Goals as goal
 

@@ -1,7 +1,6 @@
-use Rattle.std.proofs.Common.{◌≡◌, ℕ, ◌+◌, get_or, drop, ℤ, sym, ap, ◌∙◌, ap₂, add-zero, w16, to_z, of_z}
+use Rattle.std.proofs.Common.{◌≡◌, ℕ, get_or, drop, ℤ, sym, ap, ◌∙◌, ap₂, add-zero, w16, to_z, of_z}
 use Rattle.std.proofs.lemmas.Int.{to_z-of_z}
 use Rattle.std.proofs.lemmas.List.{get_or-drop}
-use Rattle.model.specs.declared.values.Term.{Term}
 use Rattle.model.specs.Reading.{word}
 use Rattle.model.proofs.Heads.{word-later}
 use Rattle.model.proofs.fill.TermEntry.read_at.Goals as goal

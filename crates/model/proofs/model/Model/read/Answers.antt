@@ -1,7 +1,6 @@
 use Rattle.std.proofs.Common.{◌≡◌, ℕ, sym, refl, ap, ◌∙◌, arith}
 use Rattle.std.proofs.lemmas.Result.{err_from_is_err_and}
 use Rattle.model.specs.Drafts.{drafted}
-use Rattle.model.specs.Layout.{encode}
 use Rattle.model.specs.Reading.{read_model, accepted, refused}
 use Rattle.model.specs.Values.{Value}
 use Rattle.model.proofs.Layouts.{accepted_is_laid_out, laid_out_is_accepted}

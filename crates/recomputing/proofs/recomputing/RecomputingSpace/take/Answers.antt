@@ -1,4 +1,4 @@
-use Rattle.std.proofs.Common.{◌≡◌, ◌+◌, sym, refl, ap, ◌∙◌, subst, arith}
+use Rattle.std.proofs.Common.{◌≡◌, ◌+◌, refl, ap, ◌∙◌, arith}
 use Rattle.model.specs.Meaning.{means as model-means}
 use Rattle.spaces.proofs.Filterings.{begins_kept}
 use Rattle.recomputing.specs.Recomputed.{recomputing, Sound}

@@ -1,9 +1,8 @@
-use Rattle.std.proofs.Common.{◌≡◌, ℕ, ◌+◌, ◌≤◌, length, set, sym, refl, ap, ◌∙◌, subst, arith}
+use Rattle.std.proofs.Common.{◌≡◌, ◌≤◌, length, ap, ◌∙◌, arith}
 use Rattle.model.specs.Meaning.{means as model-means}
 use Rattle.recomputing.specs.Walk.{steps, taken}
 use Rattle.recomputing.specs.Recomputed.{Sound}
 use Rattle.recomputing.specs.Walks.{no_take}
-use Rattle.recomputing.specs.declared.path.Step.TheVariants.{Drop}
 use Rattle.recomputing.proofs.Recomputes.{running, rebased, remarked, replays, turn_done}
 use Rattle.recomputing.proofs.recomputing.RecomputingSpace.turn.Goals as goal
 

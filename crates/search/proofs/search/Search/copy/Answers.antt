@@ -1,4 +1,4 @@
-use Rattle.std.proofs.Common.{◌≡◌, ℕ, Some, None, Ok, Option, Result, sym, ap, ◌∙◌, subst, arith}
+use Rattle.std.proofs.Common.{◌≡◌, ℕ, Some, None, Ok, Option, Result, ap, ◌∙◌, subst, arith}
 use Rattle.spaces.specs.declared.space.SpaceFault.{SpaceFault}
 use Rattle.spaces.specs.Calls.{Leasts}
 use Rattle.search.proofs.Copying.{copied_none, copied_more, copied_all, never_else}

@@ -1,4 +1,4 @@
-use Rattle.std.proofs.Common.{◌≡◌, ℕ, leb, sym, ap, ◌∙◌}
+use Rattle.std.proofs.Common.{ℕ, leb, sym, ap, ◌∙◌}
 use Rattle.search.proofs.Steps.{open_left, closed_left}
 use Rattle.search.proofs.search.Search.ends.Goals as goal
 

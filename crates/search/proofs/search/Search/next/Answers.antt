@@ -1,4 +1,4 @@
-use Rattle.std.proofs.Common.{◌≡◌, ℕ, ◌+◌, ◌-◌, ◌≤◌, Bool, true, List, ◌++◌, length, drop, Some, None, Ok, Err, Option, Result, sym, refl, ap, ◌∙◌, subst, subst₂, arith}
+use Rattle.std.proofs.Common.{◌≡◌, ℕ, ◌+◌, ◌-◌, ◌≤◌, true, List, ◌++◌, length, drop, Some, None, Ok, Option, Result, sym, refl, ap, ◌∙◌, subst, subst₂, arith}
 use Rattle.tree.specs.Filter.{Problem}
 use Rattle.tree.specs.Search.{Rule}
 use Rattle.spaces.specs.Pile.{SpaceState}
@@ -7,7 +7,7 @@ use Rattle.search.specs.Remaining.{Sitting}
 use Rattle.search.specs.Sessions.{SearchState, view, rest, Steps, Stepped, Went}
 use Rattle.search.specs.declared.search.Answer.TheVariants.{Done, Spent}
 use Rattle.search.specs.declared.search.SearchFault.{SearchFault}
-use Rattle.search.proofs.Scans.{Mid, start, on, went_done, went_plan, went_over_done, went_over_spent, plan_on_top, PlanVisited}
+use Rattle.search.proofs.Scans.{start, on, went_done, went_plan, went_over_done, went_over_spent, plan_on_top, PlanVisited}
 use Rattle.search.proofs.Steps.{way}
 use Rattle.search.proofs.search.Search.next.Goals as goal
 

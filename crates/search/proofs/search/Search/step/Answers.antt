@@ -1,4 +1,4 @@
-use Rattle.std.proofs.Common.{◌≡◌, List, None, sym, refl, ◌∙◌, subst, arith}
+use Rattle.std.proofs.Common.{List, None, sym, refl, subst, arith}
 use Rattle.tree.specs.Search.{Visit}
 use Rattle.search.specs.Choosing.{ruling}
 use Rattle.search.specs.Sessions.{Visits}

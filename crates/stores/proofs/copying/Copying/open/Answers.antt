@@ -1,8 +1,8 @@
-use Rattle.std.proofs.Common.{◌≡◌, ℕ, ◌+◌, ◌-◌, ◌*◌, ◌/◌, ◌<◌, ◌≤◌, min, ◌++◌, length, take, drop, replicate, sym, refl, ap, ◌∙◌, subst, ⊎_elim, mul-le-mul_left, one-mul, le-div_iff_mul-le, zero-mul, arith}
+use Rattle.std.proofs.Common.{◌≡◌, ℕ, ◌+◌, ◌*◌, ◌/◌, ◌<◌, ◌≤◌, ◌++◌, length, take, drop, replicate, refl, ap, ◌∙◌, subst, ⊎_elim, mul-le-mul_left, one-mul, le-div_iff_mul-le, zero-mul, arith}
 use native.Mathlib.Nat.{mul-div-le}
 use Rattle.std.proofs.lemmas.List.{take_at, length-replicate}
 use Rattle.std.proofs.lemmas.Bool.{cases_lt}
-use Rattle.stores.specs.Rows.{fresh, size_for}
+use Rattle.stores.specs.Rows.{size_for}
 use Rattle.stores.specs.Copies.{copy_depth}
 use Rattle.stores.proofs.copying.Copying.open.Goals as goal
 

@@ -1,10 +1,10 @@
-use Rattle.std.proofs.Common.{◌≡◌, ℕ, ◌-◌, ◌*◌, ◌/◌, ◌<◌, ◌≤◌, min, List, ◌++◌, length, get_or, take, drop, replicate, sym, refl, ap, ◌∙◌, subst, mul-le-mul_left, arith}
+use Rattle.std.proofs.Common.{◌≡◌, ℕ, ◌*◌, ◌/◌, ◌<◌, ◌≤◌, ◌++◌, length, take, drop, replicate, refl, ap, ◌∙◌, subst, mul-le-mul_left, arith}
 use native.Mathlib.Nat.{mul-div-le}
 use lib.LanesLaws.{map-replicate}
 use Rattle.std.proofs.ByRecursion.{All-from_get_or}
 use Rattle.std.proofs.lemmas.List.{take_at, length-replicate, get_or-replicate}
 use Rattle.stores.specs.declared.trail.Cell.{Cell}
-use Rattle.stores.specs.Rows.{fresh, size_for}
+use Rattle.stores.specs.Rows.{size_for}
 use Rattle.stores.specs.Trails.{Within, blank, values, trail_depth}
 use Rattle.stores.proofs.trail.Trail.open.Goals as goal
 
