@@ -10,7 +10,7 @@ import subprocess
 import sys
 
 ROOT = os.path.dirname(os.path.dirname(os.path.abspath(__file__)))
-INSPECT = os.path.join(ROOT, 'target', 'bin', 'inspect')
+INSPECT = os.path.join(ROOT, 'crates', 'inspect', 'out', 'inspect')
 REASONS = {
     1: 'fewer bytes are left than the record has',
     2: 'the kind is not known',
