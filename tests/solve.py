@@ -14,7 +14,7 @@ import subprocess
 import sys
 
 ROOT = os.path.dirname(os.path.dirname(os.path.abspath(__file__)))
-SOLVE = os.path.join(ROOT, 'target', 'bin', 'solve')
+SOLVE = os.path.join(ROOT, 'crates', 'solve', 'out', 'solve')
 WORDS = 'the words are rule=first|small board=large|small|station|all budget=B limit=L plan=K'
 
 

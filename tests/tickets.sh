@@ -1,18 +1,20 @@
 #!/usr/bin/env bash
 # Holds the compiler to the texts of tests/tickets: the first line of each says that it compiles, or the one error that refuses it.
-# It uses what `rt check` and `rt ci` leave in target/. The last line is 'N passed, M failed'.
+# It uses the library `search` as `rt ci` and `rt lib` build it. The last line is 'N passed, M failed'.
 set -u
 top=$(cd "$(dirname "$0")/.." && pwd -P)
 passed=0
 failed=0
+(cd "$top/crates/search" && rt lib) > /dev/null 2>&1 || { echo 'the library search is not built'; echo '0 passed, 1 failed'; exit 1; }
+parts=()
+for part in search spaces; do parts+=(--extern "$part=$top/crates/$part/out/rlib/$part.rlib"); done
+for part in "$top"/crates/*/out/rlib; do parts+=(-L "dependency=$part"); done
 for text in "$top"/tests/tickets/*.rt.txt; do
     first=$(head -n 1 "$text")
     room=$(mktemp -d)
     mkdir -p "$room/probe/src"
     cp "$text" "$room/probe/src/lib.rt"
-    parts=()
-    for part in search spaces; do parts+=(--extern "$part=$top/target/rlib/$part.rlib"); done
-    rt check "$room/probe" "${parts[@]}" -L "dependency=$top/target/rlib" > "$room/log" 2>&1
+    (cd "$room/probe" && rt check probe "${parts[@]}") > "$room/log" 2>&1
     status=$?
     errors=$(grep -c 'error\[' "$room/log")
     if [ "$first" = '// compiles' ]; then
