@@ -1,10 +1,10 @@
 -- The rounds of filtering. Assumes nothing.
-use Rattle.std.proofs.Common.{◌≡◌, ℕ, suc, ◌+◌, ◌*◌, ◌<◌, ◌≤◌, Bool, true, false, eqb, ◌≢◌, ◌⊎◌, List, [], ◌∷◌, length, Ok, Option, sym, refl, ap, ◌∙◌, subst, ⊎_elim, mul-le-mul, arith}
+use Rattle.std.proofs.Common.{◌≡◌, ℕ, suc, ◌+◌, ◌*◌, ◌<◌, ◌≤◌, Bool, true, false, eqb, ◌≢◌, List, [], ◌∷◌, length, Ok, Option, sym, refl, ap, ◌∙◌, subst, ⊎_elim, mul-le-mul, arith}
 use Rattle.std.proofs.lemmas.Bool.{both_ways, or_left, or_right, or_from, cases_eq, cases_Bool, eq-eqb, ne_eqb}
 use Rattle.bits.specs.Bit.{has, Empty}
 use Rattle.tree.specs.Tables.{Table}
 use Rattle.tree.specs.Filter.{Problem, Full, Filtered, failed, NodeOf}
-use Rattle.tree.specs.Find.{grid, count, total}
+use Rattle.tree.specs.Find.{grid, total}
 use Rattle.tree.proofs.Tables.{same_test, inside_both, inside_trans}
 use Rattle.tree.proofs.Pairs.{count-inside, count-grid, loses}
 use Rattle.tree.proofs.Domains.{every-from, every-to}
