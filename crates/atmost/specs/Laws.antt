@@ -1,18 +1,18 @@
 -- At most keeps the laws of a kind. Assumes nothing.
-use Rattle.std.specs.Prelude.{◌≡◌, ℕ, zero, suc, ◌+◌, ◌<◌, ◌≤◌, Bool, true, false, not, ◌||◌, ◌⊎◌, List, [], ◌∷◌, map, length, ℤ, pos, ◌+ℤ◌, ◌*ℤ◌, ◌≤ℤ◌, ◌==◌, int_le, int_lt, slice_index, refl}
+use Rattle.std.specs.Prelude.{◌≡◌, ℕ, zero, suc, ◌<◌, Bool, true, false, not, ◌||◌, List, [], ◌∷◌, map, length, ℤ, pos, ◌+ℤ◌, ◌*ℤ◌, ◌≤ℤ◌, ◌==◌, int_le, slice_index, refl}
 use Rattle.std.proofs.Common.{sym, ap, ap₂, ◌∙◌, subst, ⊎_elim, arith}
 use Rattle.std.proofs.Math.Path.{fun_ext}
 use Rattle.std.proofs.lemmas.Int.{ints}
-use Rattle.std.proofs.lemmas.Bool.{cond-true, cond-false, both_ways, or_cases, or_left, or_right, eq-eqb, eqb-true}
+use Rattle.std.proofs.lemmas.Bool.{both_ways, or_cases, or_left, or_right, eq-eqb, eqb-true}
 use Rattle.tree.specs.Tables.{Table, Inside, join, single}
-use Rattle.tree.specs.Domains.{every, least, greatest}
+use Rattle.tree.specs.Domains.{every}
 use Rattle.tree.proofs.Tables.{same_test, join-left, join_right}
-use Rattle.tree.proofs.Domains.{every-from, every-to, implied, implies, least-bottom, greatest-top}
+use Rattle.tree.proofs.Domains.{every-from, every-to, implied, implies}
 use Rattle.tree.proofs.Singles.{single-is}
 use Rattle.model.specs.Values.{at_most, different}
 use Rattle.kinds.specs.Laws.{Joins, Rests, Singles}
 use Rattle.model.specs.declared.values.Term.{Term}
-use Rattle.atmost.specs.Linear.{low, lows, term, others, within, all_within, stable, sum, meets, listed, WithinBound, ReadsLikeTheRule}
+use Rattle.atmost.specs.Linear.{low, lows, term, others, within, all_within, stable, sum, meets, listed, WithinBound}
 use Rattle.atmost.specs.Ends.{low_larger, low-one, lows_split}
 
 pub term-listed : (ts : List Term) (k : ℕ) → k < length ts → listed ts (term ts k).variable ≡ true
@@ -126,12 +126,3 @@ singles n w (at_most b ts) e named a bd f =
     let q = (single-is a (term ts k).variable v h).1 in
     let r = whole k l in
     subst (λ (z : ℕ). ((term ts k).coefficient *ℤ pos z +ℤ lows w (single a) (others ts k)) ≤ℤ b) (sym q) (omega (arith, ints, r, e))))
-
-pub reads : ReadsLikeTheRule
-reads = record {
-  rule = λ w ts b S. (stable-to w ts b S, stable-from w ts b S);
-  up = λ w d a l. let e : int_lt a (pos 0) ≡ false = sym (omega (arith, ints, l)) in ap (λ (z : ℕ). a *ℤ pos z) (cond-false (int_lt a (pos 0)) (greatest d w) (least d 0 w) e);
-  down = λ w d a e. ap (λ (z : ℕ). a *ℤ pos z) (cond-true (int_lt a (pos 0)) (greatest d w) (least d 0 w) e);
-  first = λ w d v l h. least-bottom d 0 w v (omega arith) (omega (arith, l)) h;
-  last = λ w d v l h. let p = greatest-top d w v l h in (p.0, p.2);
-}

@@ -1,5 +1,5 @@
 -- What the parts of a pass do. Assumes nothing.
-use Rattle.std.specs.Prelude.{◌≡◌, ℕ, ◌*◌, ◌≤◌, Bool, true, false, ◌≢◌, List, ℤ, pos, ◌*ℤ◌, neg_ℤ, ◌≤ℤ◌, Some, None, Ok, Err, Option, Result}
+use Rattle.std.specs.Prelude.{◌≡◌, ℕ, ◌*◌, Bool, true, false, ◌≢◌, List, ℤ, pos, ◌*ℤ◌, neg_ℤ, ◌≤ℤ◌, Some, None, Ok, Err, Option, Result}
 use Rattle.bits.specs.Bit.{has, Empty}
 use Rattle.tree.specs.Tables.{Table, Inside}
 use Rattle.model.specs.declared.values.Term.{Term}

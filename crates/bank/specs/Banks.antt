@@ -2,7 +2,7 @@
 use Rattle.std.specs.Prelude.{◌≡◌, ℕ, Some, None, Option, ◌==◌, ◌≢◌, refl}
 use Rattle.std.proofs.Common.{sym, ap, ◌∙◌, subst, ⊎_elim, arith}
 use Rattle.std.proofs.lemmas.Bool.{cond-true, cond-false, eq-eqb, ne_eqb, cases_eq}
-use Rattle.model.specs.Values.{Record, names}
+use Rattle.model.specs.Values.{Record}
 use Rattle.kinds.specs.Demands.{Demand, Demands, Stable, Meets, kind_of_record, demand_of, with_kind, no_demands, demanded}
 use Rattle.kinds.specs.Laws.{Joins, Rests, Singles, KeepsLaws, LawfulKinds}
 use Rattle.bank.specs.Numbers.{numbered}

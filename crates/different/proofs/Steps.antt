@@ -10,7 +10,7 @@ use Rattle.model.specs.Reading.{among}
 use Rattle.tables.specs.States.{TableState, with_domains, Bounds}
 use Rattle.tables.specs.Calls.{Leasts, Greatests}
 use Rattle.kinds.specs.Demands.{Demand, demand_of}
-use Rattle.kinds.specs.Passes.{Alive, Dead}
+use Rattle.kinds.specs.Passes.{Alive}
 use Rattle.kinds.specs.Sofar.{Sofar}
 use Rattle.kinds.specs.declared.shrunk.Shrunk.{Shrunk}
 use Rattle.kinds.proofs.Passing.{sofar-none, nothing_yet}

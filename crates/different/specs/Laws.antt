@@ -10,7 +10,7 @@ use Rattle.tree.proofs.Domains.{every-from, every-to, implied, implies, clash, n
 use Rattle.tree.proofs.Singles.{single-is}
 use Rattle.model.specs.Values.{at_most, different}
 use Rattle.kinds.specs.Laws.{Joins, Rests, Singles}
-use Rattle.different.specs.Different.{lone, apart, stable, meets, ReadsLikeTheRule}
+use Rattle.different.specs.Different.{lone, apart, stable, meets}
 use Rattle.different.specs.Lists.{pairs-from, pairs-to, pairs-same}
 
 -- v is the only value of x
@@ -70,9 +70,3 @@ singles n w (different xs) k named a bd f =
     (ap (single a y) (vx ∙ eqb-true (slice_index a x) (slice_index a y) same ∙ sym vy) ∙ q.1)))
     (λ h. h) (cases_Bool (slice_index a x == slice_index a y))))
     (λ e. apart_from w x y (single a) (λ z v h. (bd z v h).1) (λ v l h. both_ways (slice_index a x == slice_index a y) (not-true (slice_index a x == slice_index a y) e) (eq-eqb (slice_index a x) (slice_index a y) (sym (single-is a x v l.0).1 ∙ (single-is a y v h).1)))))
-
-pub reads : ReadsLikeTheRule
-reads w xs T b = (
-  λ e x y v ax ay d h only. apart-to w x y T v b (pairs-to xs (apart w T) e x y ax ay d) (h, only),
-  λ f. pairs-from xs (apart w T) (λ x y ax ay d. apart_from w x y T b (λ v l. f x y v ax ay d l.0 l.1)),
-)

@@ -1,4 +1,4 @@
-use Rattle.std.proofs.Common.{◌≡◌, ◌<◌, true, false, eqb, ℤ, pos, ◌*ℤ◌, sym, refl, ◌∙◌, subst, ap₂, ⊎_elim, arith, w16, w64, SFits, to_z, of_z, rules}
+use Rattle.std.proofs.Common.{◌≡◌, ◌<◌, true, false, eqb, pos, ◌*ℤ◌, sym, refl, ◌∙◌, subst, ap₂, ⊎_elim, arith, w16, w64, SFits, to_z, of_z, rules}
 use lib.Signed.{le_z}
 use Rattle.std.proofs.lemmas.Int.{ints, to_z-of_z}
 use Rattle.std.proofs.lemmas.Bool.{or_right, eq-eqb}

@@ -1,4 +1,4 @@
-use Rattle.different.specs.Laws.{reads}
+use Rattle.different.proofs.Laws.{reads}
 use Rattle.different.proofs.kind.different_reads_like_the_rule.Goals as goal
 
 pub returns : goal.returns
