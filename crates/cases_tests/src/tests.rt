@@ -1,6 +1,6 @@
 use crate::boards::{Called, Claims, Grown, in_session, stops_after};
 use bank::standard::standard;
-use cases::{Claim, all_cases, claim_of};
+use cases::{Case, Claim, all_cases, claim_of};
 use marking::Marking;
 use model::model::Model;
 use recomputing::recomputing::Recomputing;
@@ -27,6 +27,7 @@ const ENTRY: Entry = Entry {
 fn trail(
     rt: &impl Abort,
     heap: Global,
+    case: Case,
     cells: usize,
     entries: usize,
     depth: usize,
@@ -35,35 +36,42 @@ fn trail(
     let mut lent = vec![in heap; CELL; cells]?;
     let mut saved = vec![in heap; ENTRY; entries]?;
     let mut store = Trail::open(lent.as_mut_slice(), saved.as_mut_slice(), cells);
-    assert!(rt; store.depth() == depth, "depth");
-    assert!(rt; stops_after(&mut store, depth, number), "marks");
+    assert!(rt; store.depth() == depth, "{case:?}: depth");
+    assert!(rt; stops_after(&mut store, depth, number), "{case:?}: marks");
     Ok(())
 }
 
 fn copies(
     rt: &impl Abort,
     heap: Global,
+    case: Case,
     cells: usize,
     words: usize,
     depth: usize,
 ) -> Result<(), Fail> {
     let mut lent = vec![in heap; 7u64; words]?;
     let store = Copying::open(lent.as_mut_slice(), cells);
-    assert!(rt; store.depth() == depth, "depth");
+    assert!(rt; store.depth() == depth, "{case:?}: depth");
     Ok(())
 }
 
 // The bytes are refused.
-fn refused(rt: &impl Abort, bytes: &[u8], number: u8, place: usize) -> Result<(), Fail> {
+fn refused(
+    rt: &impl Abort,
+    case: Case,
+    bytes: &[u8],
+    number: u8,
+    place: usize,
+) -> Result<(), Fail> {
     let mut model = Model::fresh();
     match model.read(bytes) {
         Ok(()) => {
-            assert!(rt; false, "read");
+            assert!(rt; false, "{case:?}: read");
             Ok(())
         },
         Err(fault) => {
-            assert!(rt; fault.number() == number, "number");
-            assert!(rt; fault.place() == place, "place");
+            assert!(rt; fault.number() == number, "{case:?}: number");
+            assert!(rt; fault.place() == place, "{case:?}: place");
             Ok(())
         }
     }
@@ -74,6 +82,7 @@ fn refused(rt: &impl Abort, bytes: &[u8], number: u8, place: usize) -> Result<()
 fn on_boards<C: Claims>(
     rt: &impl Abort,
     heap: Global,
+    case: Case,
     bytes: &[u8],
     claim: &C,
 ) -> Result<(), Fail> {
@@ -96,49 +105,49 @@ fn on_boards<C: Claims>(
     let mut small = Search::open(small, First);
     let mut station = Search::open(station, First);
     for _ in 0..2u8 {
-        assert!(rt; in_session(claim, &mut large), "large");
-        assert!(rt; in_session(claim, &mut small), "small");
-        assert!(rt; in_session(claim, &mut station), "station");
+        assert!(rt; in_session(claim, &mut large), "{case:?}: large");
+        assert!(rt; in_session(claim, &mut small), "{case:?}: small");
+        assert!(rt; in_session(claim, &mut station), "{case:?}: station");
     }
     Ok(())
 }
 
-fn runs(rt: &impl Abort, heap: Global, claim: Claim) -> Result<(), Fail> {
-    match claim {
+fn runs(rt: &impl Abort, heap: Global, case: Case) -> Result<(), Fail> {
+    match claim_of(case) {
         Claim::Trail {
             cells,
             entries,
             depth,
             number,
-        } => trail(rt, heap, cells, entries, depth, number),
+        } => trail(rt, heap, case, cells, entries, depth, number),
         Claim::Copies {
             cells,
             words,
             depth,
-        } => copies(rt, heap, cells, words, depth),
+        } => copies(rt, heap, case, cells, words, depth),
         Claim::Refused {
             bytes,
             number,
             place,
-        } => refused(rt, bytes, number, place),
+        } => refused(rt, case, bytes, number, place),
         Claim::Tree {
             bytes,
             root,
             plans,
             nodes,
-        } => on_boards(rt, heap, bytes, &Grown { root, plans, nodes }),
+        } => on_boards(rt, heap, case, bytes, &Grown { root, plans, nodes }),
         Claim::Calls {
             bytes,
             budget,
             answers,
-        } => on_boards(rt, heap, bytes, &Called { budget, answers }),
+        } => on_boards(rt, heap, case, bytes, &Called { budget, answers }),
     }
 }
 
 #[test]
 fn every_case_runs(rt: HostRuntime) -> Result<(), Fail> {
     for case in all_cases() {
-        runs(&rt, rt.alloc(), claim_of(case)).note(format_args!("{case:?}"))?;
+        runs(&rt, rt.alloc(), case)?;
     }
     Ok(())
 }
