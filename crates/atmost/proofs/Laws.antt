@@ -1,12 +1,18 @@
--- The test of stability says what the rule says. Assumes nothing.
-use Rattle.std.proofs.Common.{◌≡◌, ℕ, false, sym, ap, arith}
-use Rattle.std.specs.Prelude.{pos, ◌*ℤ◌, int_lt}
+-- The test of stability says what the rule says, and the sum of the least parts. Assumes nothing.
+use Rattle.std.proofs.Common.{◌≡◌, ℕ, ◌<◌, true, false, List, sym, ap, arith}
+use Rattle.std.specs.Prelude.{pos, ◌*ℤ◌, ◌≤ℤ◌, int_lt}
 use Rattle.std.proofs.lemmas.Int.{ints}
 use Rattle.std.proofs.lemmas.Bool.{cond-true, cond-false}
+use Rattle.tree.specs.Tables.{Table, Inside}
+use Rattle.model.specs.declared.values.Term.{Term}
 use Rattle.tree.specs.Domains.{least, greatest}
 use Rattle.tree.proofs.Domains.{least-bottom, greatest-top}
-use Rattle.atmost.specs.Linear.{ReadsLikeTheRule}
-use Rattle.atmost.specs.Laws.{stable-to, stable-from}
+use Rattle.atmost.specs.Linear.{lows, listed, ReadsLikeTheRule}
+use Rattle.atmost.specs.Laws.{ends_larger, lows_smaller, stable-to, stable-from}
+
+-- larger domains have smaller least parts
+pub lows_larger : (w : ℕ) (S T : Table) (ts : List Term) → Inside S T → ((x v : ℕ) → S x v ≡ true → v < w) → ((x : ℕ) → listed ts x ≡ true → (v : ℕ) × (S x v ≡ true)) → lows w T ts ≤ℤ lows w S ts
+lows_larger w S T ts ins b f = lows_smaller w S T ts (ends_larger w S T ts ins b f)
 
 pub reads : ReadsLikeTheRule
 reads = record {

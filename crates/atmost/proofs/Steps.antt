@@ -19,8 +19,10 @@ use Rattle.kinds.specs.declared.shrunk.Shrunk.{Shrunk}
 use Rattle.kinds.proofs.Passing.{sofar-none, nothing_yet}
 use Rattle.atmost.specs.Linear.{low, lows, term, others, listed, all_within, stable, meets}
 use Rattle.atmost.specs.Trims.{End, Barred, Trimmed}
-use Rattle.atmost.specs.Ends.{mul-up, mul_down, low_larger, lows_split}
-use Rattle.atmost.specs.Laws.{others-listed, lows_larger, stable-to, stable-from}
+use Rattle.atmost.specs.Ends.{mul-up, mul_down, lows_split}
+use Rattle.atmost.proofs.Ends.{low_larger}
+use Rattle.atmost.specs.Laws.{others-listed, stable-to, stable-from}
+use Rattle.atmost.proofs.Laws.{lows_larger}
 
 -- ---- one term
 

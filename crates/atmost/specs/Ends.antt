@@ -39,24 +39,24 @@ mul_down a m n e l =
 abbrev pub end : ℕ → (ℕ → Bool) → ℤ → ℕ
 end w d a = cond (int_lt a (pos 0)) (greatest d w) (least d 0 w)
 
--- the least part is that of a value, and none has a smaller one
-pub low-is : (w : ℕ) (d : ℕ → Bool) (a : ℤ) (v : ℕ) → d v ≡ true → v < w → (d (end w d a) ≡ true) × (low w d a ≤ℤ (a *ℤ pos v))
-low-is w d a v h l = ⊎_elim
+-- at the end of the domain the part is that of a value, and none has a smaller one
+pub end_is : (w : ℕ) (d : ℕ → Bool) (a : ℤ) (v : ℕ) → d v ≡ true → v < w → (d (end w d a) ≡ true) × ((a *ℤ pos (end w d a)) ≤ℤ (a *ℤ pos v))
+end_is w d a v h l = ⊎_elim
     (λ e. let p = greatest-top d w v l h in
     subst (λ (z : ℕ). (d z ≡ true) × ((a *ℤ pos z) ≤ℤ (a *ℤ pos v))) (sym (cond-true (int_lt a (pos 0)) (greatest d w) (least d 0 w) e)) (p.0, mul_down a v (greatest d w) e p.2))
     (λ e. let p = least-bottom d 0 w v (omega arith) (omega arith) h in
     subst (λ (z : ℕ). (d z ≡ true) × ((a *ℤ pos z) ≤ℤ (a *ℤ pos v))) (sym (cond-false (int_lt a (pos 0)) (greatest d w) (least d 0 w) e)) (p.0, mul-up a (least d 0 w) v e p.1))
     (cases_Bool (int_lt a (pos 0)))
 
--- a larger domain has a smaller least part
-pub low_larger : (w : ℕ) (d e : ℕ → Bool) (a : ℤ) → ((v : ℕ) → d v ≡ true → e v ≡ true) → ((v : ℕ) → d v ≡ true → v < w) → (v : ℕ) → d v ≡ true → low w e a ≤ℤ low w d a
-low_larger w d e a ins small v h =
-    let p = (low-is w d a v h (small v h)).0 in
-    (low-is w e a (end w d a) (ins (end w d a) p) (small (end w d a) p)).1
+-- a larger domain has a smaller part at its end
+pub end_larger : (w : ℕ) (d e : ℕ → Bool) (a : ℤ) → ((v : ℕ) → d v ≡ true → e v ≡ true) → ((v : ℕ) → d v ≡ true → v < w) → (v : ℕ) → d v ≡ true → (a *ℤ pos (end w e a)) ≤ℤ (a *ℤ pos (end w d a))
+end_larger w d e a ins small v h =
+    let p = (end_is w d a v h (small v h)).0 in
+    (end_is w e a (end w d a) (ins (end w d a) p) (small (end w d a) p)).1
 
 -- one value alone
-pub low-one : (w : ℕ) (d : ℕ → Bool) (a : ℤ) (v : ℕ) → d v ≡ true → v < w → ((u : ℕ) → d u ≡ true → u ≡ v) → low w d a ≡ a *ℤ pos v
-low-one w d a v h l only = ap (λ (z : ℕ). a *ℤ pos z) (only (end w d a) (low-is w d a v h l).0)
+pub end_one : (w : ℕ) (d : ℕ → Bool) (a : ℤ) (v : ℕ) → d v ≡ true → v < w → ((u : ℕ) → d u ≡ true → u ≡ v) → a *ℤ pos (end w d a) ≡ a *ℤ pos v
+end_one w d a v h l only = ap (λ (z : ℕ). a *ℤ pos z) (only (end w d a) (end_is w d a v h l).0)
 
 -- the sum is one part and the others
 pub lows_split : (w : ℕ) (S : Table) (ts : List Term) (k : ℕ) → k < length ts → lows w S ts ≡ low w (S (term ts k).variable) (term ts k).coefficient +ℤ lows w S (others ts k)

@@ -13,7 +13,7 @@ use Rattle.model.specs.Values.{at_most, different}
 use Rattle.kinds.specs.Laws.{Joins, Rests, Singles}
 use Rattle.model.specs.declared.values.Term.{Term}
 use Rattle.atmost.specs.Linear.{low, lows, term, others, within, all_within, stable, sum, meets, listed, WithinBound}
-use Rattle.atmost.specs.Ends.{low_larger, low-one, lows_split}
+use Rattle.atmost.specs.Ends.{end, end_larger, end_one, lows_split}
 
 pub term-listed : (ts : List Term) (k : ℕ) → k < length ts → listed ts (term ts k).variable ≡ true
 term-listed [] k l = absurd (omega arith)
@@ -42,24 +42,27 @@ here t ts = or_left (t.variable == t.variable) (listed ts t.variable) (eq-eqb t.
 there : (t : Term) (ts : List Term) (x : ℕ) → listed ts x ≡ true → listed (t ∷ ts) x ≡ true
 there t ts x h = or_right (x == t.variable) (listed ts x) h
 
--- larger domains have smaller least parts
-pub lows_larger : (w : ℕ) (S T : Table) (ts : List Term) → Inside S T → ((x v : ℕ) → S x v ≡ true → v < w) → ((x : ℕ) → listed ts x ≡ true → (v : ℕ) × (S x v ≡ true)) → lows w T ts ≤ℤ lows w S ts
-lows_larger w S T [] ins b f = omega (arith, ints)
-lows_larger w S T (t ∷ ts) ins b f =
-    let g = f t.variable (here t ts) in
-    let p = low_larger w (S t.variable) (T t.variable) t.coefficient (ins t.variable) (b t.variable) g.0 g.1 in
-    let q = lows_larger w S T ts ins b (λ x h. f x (there t ts x h)) in
+-- larger domains have smaller parts at their ends
+pub ends_larger : (w : ℕ) (S T : Table) (ts : List Term) → Inside S T → ((x v : ℕ) → S x v ≡ true → v < w) → ((x : ℕ) → listed ts x ≡ true → (v : ℕ) × (S x v ≡ true))
+    → (t : Term) → listed ts t.variable ≡ true → (t.coefficient *ℤ pos (end w (T t.variable) t.coefficient)) ≤ℤ (t.coefficient *ℤ pos (end w (S t.variable) t.coefficient))
+ends_larger w S T ts ins b f t m = let g = f t.variable m in end_larger w (S t.variable) (T t.variable) t.coefficient (ins t.variable) (b t.variable) g.0 g.1
+
+-- smaller least parts have a smaller sum
+pub lows_smaller : (w : ℕ) (S T : Table) (ts : List Term) → ((t : Term) → listed ts t.variable ≡ true → low w (T t.variable) t.coefficient ≤ℤ low w (S t.variable) t.coefficient) → lows w T ts ≤ℤ lows w S ts
+lows_smaller w S T [] f = omega (arith, ints)
+lows_smaller w S T (t ∷ ts) f =
+    let p = f t (here t ts) in
+    let q = lows_smaller w S T ts (λ u m. f u (there t ts u.variable m)) in
     omega (arith, ints)
 
 lows-same : (w : ℕ) (S T : Table) (ts : List Term) → ((x v : ℕ) → listed ts x ≡ true → S x v ≡ T x v) → lows w S ts ≡ lows w T ts
 lows-same w S T [] f = refl
 lows-same w S T (t ∷ ts) f = ap₂ ◌+ℤ◌ (ap (λ (d : ℕ → Bool). low w d t.coefficient) (fun_ext (λ v. f t.variable v (here t ts)))) (lows-same w S T ts (λ x v h. f x v (there t ts x h)))
 
-lows-one : (w : ℕ) (a : List ℕ) (ts : List Term) → ((x : ℕ) → listed ts x ≡ true → (single a x (slice_index a x) ≡ true) × (slice_index a x < w)) → lows w (single a) ts ≡ sum ts a
-lows-one w a [] f = refl
-lows-one w a (t ∷ ts) f =
-    let p = f t.variable (here t ts) in
-    ap₂ ◌+ℤ◌ (low-one w (single a t.variable) t.coefficient (slice_index a t.variable) p.0 p.1 (λ u h. (single-is a t.variable u h).1)) (lows-one w a ts (λ x h. f x (there t ts x h)))
+-- least parts that are those of the values a have the sum of these
+lows_sum : (w : ℕ) (a : List ℕ) (ts : List Term) → ((t : Term) → listed ts t.variable ≡ true → low w (single a t.variable) t.coefficient ≡ t.coefficient *ℤ pos (slice_index a t.variable)) → lows w (single a) ts ≡ sum ts a
+lows_sum w a [] f = refl
+lows_sum w a (t ∷ ts) f = ap₂ ◌+ℤ◌ (f t (here t ts)) (lows_sum w a ts (λ u m. f u (there t ts u.variable m)))
 
 module _ (w : ℕ) (ts : List Term) (b : ℤ) where
   pub stable-to : (S : Table) → all_within w ts b S ≡ true → WithinBound w ts b S
@@ -90,10 +93,10 @@ pub joins : Joins 2 stable
 joins n w (different xs) k named S T bs bt fs ft es et = refl
 joins n w (at_most b ts) e named S T bs bt fs ft es et = stable-from w ts b (join S T) (λ k l v vl j. ⊎_elim
     (λ (g : S (term ts k).variable v ≡ true). let p = stable-to w ts b S es k l v vl g in
-    let q = lows_larger w S (join S T) (others ts k) (join-left S T) (λ x u z. (bs x u z).1) (λ x m. fs x (named.below x (others-listed ts k x m))) in
+    let q = lows_smaller w S (join S T) (others ts k) (ends_larger w S (join S T) (others ts k) (join-left S T) (λ x u z. (bs x u z).1) (λ x m. fs x (named.below x (others-listed ts k x m)))) in
     omega (arith, ints))
     (λ (g : T (term ts k).variable v ≡ true). let p = stable-to w ts b T et k l v vl g in
-    let q = lows_larger w T (join S T) (others ts k) (join_right S T) (λ x u z. (bt x u z).1) (λ x m. ft x (named.below x (others-listed ts k x m))) in
+    let q = lows_smaller w T (join S T) (others ts k) (ends_larger w T (join S T) (others ts k) (join_right S T) (λ x u z. (bt x u z).1) (λ x m. ft x (named.below x (others-listed ts k x m)))) in
     omega (arith, ints))
     (or_cases (S (term ts k).variable v) (T (term ts k).variable v) j))
 
@@ -110,12 +113,14 @@ singles n w (at_most b ts) e named a bd f =
     let g = f x (named.below x m) in
     let e = (single-is a x g.0 g.1).1 in
     (subst (λ (z : ℕ). single a x z ≡ true) e g.1, subst (λ (z : ℕ). z < w) e (bd x g.0 g.1).1) in
+    let part : (t : Term) → listed ts t.variable ≡ true → low w (single a t.variable) t.coefficient ≡ t.coefficient *ℤ pos (slice_index a t.variable) = λ t m.
+    let p = value-at t.variable m in
+    end_one w (single a t.variable) t.coefficient (slice_index a t.variable) p.0 p.1 (λ u z. (single-is a t.variable u z).1) in
     let whole : (k : ℕ) → k < length ts → ((term ts k).coefficient *ℤ pos (slice_index a (term ts k).variable) +ℤ lows w (single a) (others ts k)) ≡ sum ts a = λ k l.
     let m = term-listed ts k l in
-    let p = value-at (term ts k).variable m in
-    let q = low-one w (single a (term ts k).variable) (term ts k).coefficient (slice_index a (term ts k).variable) p.0 p.1 (λ u z. (single-is a (term ts k).variable u z).1) in
+    let q = part (term ts k) m in
     let r = lows_split w (single a) ts k l in
-    let s = lows-one w a ts value-at in
+    let s = lows_sum w a ts part in
     omega (arith, ints, q, r, s) in
     same_test (all_within w ts b (single a)) (int_le (sum ts a) b)
     (λ e. let p = value-at (term ts 0).variable (term-listed ts 0 some) in

@@ -17,7 +17,7 @@ use Rattle.kinds.proofs.Passing.{sofar-none, nothing_yet}
 use Rattle.different.specs.Different.{apart, stable, meets}
 use Rattle.different.specs.Expels.{Alone, Crowds, Barred, Expelled}
 use Rattle.different.specs.Lists.{among-at, pairs-from, pairs-to}
-use Rattle.different.specs.Laws.{apart-to, apart_from}
+use Rattle.different.proofs.Laws.{apart-to, apart_from}
 
 -- Of the listed variables those before the place k were looked at, but for x.
 pub record Going (n : ℕ) (A : Demand) (s : TableState) (xs : List ℕ) (x v : ℕ) (t : TableState) (k : ℕ) (found : Set) (u : TableState) : Type 0 where

@@ -29,11 +29,12 @@ module _ (w x y : ℕ) (T : Table) where
       let p = and_parts (T x v) (every w (λ u. not (T x u) || u == v)) e in
       (p.0, λ u h. eqb-true u v (implied (T x u) (u == v) (every-to w (λ u. not (T x u) || u == v) p.1 u (b x u h)) h))
 
-  pub apart-to : (v : ℕ) → Small w T → apart w T x y ≡ true → Lone T x v → T y v ≢ true
-  apart-to v b e l h = clash (lone w T x v) (T y v) (every-to w (λ v. not (lone w T x v && T y v)) e v (b y v h)) (lone-from v l) h
+  -- where the test finds no value that is the only one of x and in y too, the only value of x is not in y
+  pub clear_to : (v : ℕ) → Small w T → every w (λ u. not (lone w T x u && T y u)) ≡ true → Lone T x v → T y v ≢ true
+  clear_to v b e l h = clash (lone w T x v) (T y v) (every-to w (λ u. not (lone w T x u && T y u)) e v (b y v h)) (lone-from v l) h
 
-  pub apart_from : Small w T → ((v : ℕ) → Lone T x v → T y v ≢ true) → apart w T x y ≡ true
-  apart_from b f = every-from w (λ v. not (lone w T x v && T y v)) (λ v h. no_clash (lone w T x v) (T y v) (λ e. f v (lone-to v b e)))
+  pub clear_from : Small w T → ((v : ℕ) → Lone T x v → T y v ≢ true) → every w (λ u. not (lone w T x u && T y u)) ≡ true
+  clear_from b f = every-from w (λ u. not (lone w T x u && T y u)) (λ v h. no_clash (lone w T x v) (T y v) (λ e. f v (lone-to v b e)))
 
 -- a smaller domain with a value has the only value of the larger
 lone-part : (S U : Table) (x v : ℕ) → Inside S U → (u : ℕ) × (S x u ≡ true) → Lone U x v → Lone S x v
@@ -46,10 +47,10 @@ rows w d e = every w (λ v. not ((d v && every w (λ u. not (d u) || u == v)) &&
 pub joins : Joins 3 stable
 joins n w (at_most b ts) k named S T bs bt fs ft es et = refl
 joins n w (different xs) k named S T bs bt fs ft es et =
-    pairs-from xs (apart w (join S T)) (λ x y ax ay d. apart_from w x y (join S T) (λ z v h. ⊎_elim (λ q. (bs z v q).1) (λ q. (bt z v q).1) (or_cases (S z v) (T z v) h)) (λ v l h.
+    pairs-from xs (apart w (join S T)) (λ x y ax ay d. clear_from w x y (join S T) (λ z v h. ⊎_elim (λ q. (bs z v q).1) (λ q. (bt z v q).1) (or_cases (S z v) (T z v) h)) (λ v l h.
     ⊎_elim
-    (apart-to w x y S v (λ z u q. (bs z u q).1) (pairs-to xs (apart w S) es x y ax ay d) (lone-part S (join S T) x v (join-left S T) (fs x (named.below x ax)) l))
-    (apart-to w x y T v (λ z u q. (bt z u q).1) (pairs-to xs (apart w T) et x y ax ay d) (lone-part T (join S T) x v (join_right S T) (ft x (named.below x ax)) l))
+    (clear_to w x y S v (λ z u q. (bs z u q).1) (pairs-to xs (apart w S) es x y ax ay d) (lone-part S (join S T) x v (join-left S T) (fs x (named.below x ax)) l))
+    (clear_to w x y T v (λ z u q. (bt z u q).1) (pairs-to xs (apart w T) et x y ax ay d) (lone-part T (join S T) x v (join_right S T) (ft x (named.below x ax)) l))
     (or_cases (S y v) (T y v) h)))
 
 pub rests : Rests 3 stable
@@ -66,7 +67,7 @@ singles n w (different xs) k named a bd f =
     let vy = (single-is a y q.0 q.1).1 in
     same_test (apart w (single a) x y) (not (slice_index a x == slice_index a y))
     (λ e. not_from_false (slice_index a x == slice_index a y) (⊎_elim
-    (λ same. absurd (apart-to w x y (single a) p.0 (λ z v h. (bd z v h).1) e (p.1, λ u h. (single-is a x u h).1 ∙ sym vx)
+    (λ same. absurd (clear_to w x y (single a) p.0 (λ z v h. (bd z v h).1) e (p.1, λ u h. (single-is a x u h).1 ∙ sym vx)
     (ap (single a y) (vx ∙ eqb-true (slice_index a x) (slice_index a y) same ∙ sym vy) ∙ q.1)))
     (λ h. h) (cases_Bool (slice_index a x == slice_index a y))))
-    (λ e. apart_from w x y (single a) (λ z v h. (bd z v h).1) (λ v l h. both_ways (slice_index a x == slice_index a y) (not-true (slice_index a x == slice_index a y) e) (eq-eqb (slice_index a x) (slice_index a y) (sym (single-is a x v l.0).1 ∙ (single-is a y v h).1)))))
+    (λ e. clear_from w x y (single a) (λ z v h. (bd z v h).1) (λ v l h. both_ways (slice_index a x == slice_index a y) (not-true (slice_index a x == slice_index a y) e) (eq-eqb (slice_index a x) (slice_index a y) (sym (single-is a x v l.0).1 ∙ (single-is a y v h).1)))))
