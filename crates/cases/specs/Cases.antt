@@ -1,8 +1,8 @@
 -- The list of the cases, and what each claims. Assumes nothing.
-use Rattle.std.specs.Prelude.{◌≡◌, ℕ, Bool, true, ◌&&◌, List, [], ◌∷◌, ℤ, pos, negsuc}
+use Rattle.std.specs.Prelude.{ℕ, Bool, true, ◌&&◌, List, [], ◌∷◌, ℤ, pos, negsuc}
 use Rattle.model.specs.declared.values.Window.{Window}
 use Rattle.model.specs.declared.values.Term.{Term}
-use Rattle.model.specs.Values.{Value, Record, at_most, different}
+use Rattle.model.specs.Values.{Record, at_most, different}
 use Rattle.model.specs.Layout.{encode}
 use Rattle.search.specs.declared.search.Answer.TheVariants.{Plan, Done, Spent}
 use Rattle.cases.specs.declared.Case.{Case}

@@ -1,5 +1,5 @@
 -- Marks of a store one after another, as a function. Assumes nothing.
-use Rattle.std.specs.Prelude.{◌≡◌, ℕ, zero, suc, Bool, true, false, cond, ◌&&◌, List, ◌∷◌, length, Ok, Err, Result, ◌==◌, nat_lt}
+use Rattle.std.specs.Prelude.{◌≡◌, ℕ, zero, suc, Bool, true, false, cond, ◌&&◌, ◌∷◌, length, Ok, Err, Result, ◌==◌, nat_lt}
 use Rattle.stores.specs.Rows.{Rows, Marks, number}
 use Rattle.stores.specs.declared.store.StoreFault.{StoreFault}
 

@@ -139,7 +139,7 @@ pub alone_some : (s : TableState) (x : ℕ) (o : Option ℕ) (v : ℕ) → o ≡
 alone_some s x o v e h = subst (λ (z : Option ℕ). Alone s x (Ok z)) e h
 
 pub crowds_some : (s : TableState) (x : ℕ) (twice : ℕ → Bool) (o : Option ℕ) (v : ℕ) → o ≡ Some v → Crowds s x twice (Ok o) → (s.domains x v ≡ true) × ((u : ℕ) → s.domains x u ≡ true → u ≡ v)
-crowds_some s x twice o v e h = subst (λ (z : Option ℕ). Crowds s x twice (Ok z)) e h
+crowds_some s x twice o v e h = let p = subst (λ (z : Option ℕ). Crowds s x twice (Ok z)) e h in (p.0, p.1)
 
 -- Of the listed variables before the place k each has a value, and what two of them have is in the second set.
 pub record Seen (s : TableState) (xs : List ℕ) (k : ℕ) (once twice : ℕ → Bool) : Type 0 where

@@ -19,7 +19,7 @@ Alone s x (Err e) = s.variables ≤ x
 
 -- the value of x, if it is single and the value is in the set; else no only value of x is
 abbrev pub Crowds : TableState → ℕ → (ℕ → Bool) → Result (Option ℕ) TableFault → Type 0
-Crowds s x twice (Ok (Some v)) = (s.domains x v ≡ true) × ((u : ℕ) → s.domains x u ≡ true → u ≡ v)
+Crowds s x twice (Ok (Some v)) = (s.domains x v ≡ true) × ((u : ℕ) → s.domains x u ≡ true → u ≡ v) × (twice v ≡ true)
 Crowds s x twice (Ok None) = (v : ℕ) → s.domains x v ≡ true → ((u : ℕ) → s.domains x u ≡ true → u ≡ v) → twice v ≡ false
 Crowds s x twice (Err e) = s.variables ≤ x
 
