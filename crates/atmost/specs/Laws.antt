@@ -60,7 +60,7 @@ lows-same w S T [] f = refl
 lows-same w S T (t ∷ ts) f = ap₂ ◌+ℤ◌ (ap (λ (d : ℕ → Bool). low w d t.coefficient) (fun_ext (λ v. f t.variable v (here t ts)))) (lows-same w S T ts (λ x v h. f x v (there t ts x h)))
 
 -- least parts that are those of the values a have the sum of these
-lows_sum : (w : ℕ) (a : List ℕ) (ts : List Term) → ((t : Term) → listed ts t.variable ≡ true → low w (single a t.variable) t.coefficient ≡ t.coefficient *ℤ pos (slice_index a t.variable)) → lows w (single a) ts ≡ sum ts a
+pub lows_sum : (w : ℕ) (a : List ℕ) (ts : List Term) → ((t : Term) → listed ts t.variable ≡ true → low w (single a t.variable) t.coefficient ≡ t.coefficient *ℤ pos (slice_index a t.variable)) → lows w (single a) ts ≡ sum ts a
 lows_sum w a [] f = refl
 lows_sum w a (t ∷ ts) f = ap₂ ◌+ℤ◌ (f t (here t ts)) (lows_sum w a ts (λ u m. f u (there t ts u.variable m)))
 

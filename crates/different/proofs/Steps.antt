@@ -138,6 +138,11 @@ greatest-some s x o v e h = (subst (λ (z : Option ℕ). Greatests s x (Ok z)) e
 pub alone_some : (s : TableState) (x : ℕ) (o : Option ℕ) (v : ℕ) → o ≡ Some v → Alone s x (Ok o) → (s.domains x v ≡ true) × ((u : ℕ) → s.domains x u ≡ true → u ≡ v)
 alone_some s x o v e h = subst (λ (z : Option ℕ). Alone s x (Ok z)) e h
 
+pub alone_none : (s : TableState) (x : ℕ) (o : Option ℕ) (xs : List ℕ) → o ≡ None → Alone s x (Ok o) → Cleared s xs x
+alone_none s x o xs e h v t only y n d =
+    let k = subst (λ (z : Option ℕ). Alone s x (Ok z)) e h v t in
+    absurd (k.2 (only k.0 k.1))
+
 pub crowds_some : (s : TableState) (x : ℕ) (twice : ℕ → Bool) (o : Option ℕ) (v : ℕ) → o ≡ Some v → Crowds s x twice (Ok o) → (s.domains x v ≡ true) × ((u : ℕ) → s.domains x u ≡ true → u ≡ v)
 crowds_some s x twice o v e h = let p = subst (λ (z : Option ℕ). Crowds s x twice (Ok z)) e h in (p.0, p.1)
 

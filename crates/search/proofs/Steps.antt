@@ -169,22 +169,29 @@ module _ {S Q : Type 0} (means : S → SpaceState) (sound : S → Type 0) (rules
           },
         )
 
-    -- where the rule has no answer the top is not open
-    pub unanswered : at_top (ruling (means a.space) (rules a.rule)) (means a.space).base (means a.space).pile ≡ None → (N : Node) (q : List Node) → (means a.space).pile ≡ N ∷ q → state_of (visit (means a.space).problem (ruling (means a.space) (rules a.rule)) N) ≡ Now-open → ⊥
-    unanswered n N q e = go N (subst (λ (p : List Node). at_top (ruling (means a.space) (rules a.rule)) (means a.space).base p ≡ None) e n)
-      where
-        go : (N : Node) → at_top (ruling (means a.space) (rules a.rule)) (means a.space).base (N ∷ q) ≡ None → state_of (visit (means a.space).problem (ruling (means a.space) (rules a.rule)) N) ≡ Now-open → ⊥
-        go failed m k = let z : ◌≡◌ {A = ℕ} 0 1 = cc in omega arith
-        go (table T) m k =
-            let o : Now-plan ≡ Now-open = ap (λ (o : Option (ℕ × ℕ)). state_of (found (means a.space).problem T o)) (sym m) ∙ k in
-            let z : ◌≡◌ {A = ℕ} 0 1 = cc in omega arith
-
     -- none is left
-    pub no_step : a.fresh ≡ false → at_top (ruling (means a.space) (rules a.rule)) (means a.space).base (means a.space).pile ≡ None → length (means a.space).pile ≤ 1 → rest (view means rules a) ≡ []
-    no_step f n l =
+    pub no_step : (st : State) → a.fresh ≡ false → st ≡ state (means a.space).problem.variables (means a.space).problem.width (means a.space).pile → (st ≡ Now-open → ⊥) → length (means a.space).pile ≤ 1 → rest (view means rules a) ≡ []
+    no_step st f h closed l =
         let s = means a.space in
         let R = ruling s (rules a.rule) in
-        ap (λ (b : Bool). remaining s.problem R b s.pile s.choices) f ∙ nothing-later s.problem R laws picks s.pile s.choices way l (unanswered n)
+        ap (λ (b : Bool). remaining s.problem R b s.pile s.choices) f ∙ nothing-later s.problem R laws picks s.pile s.choices way l (λ N q e k. closed (top-state st h N q e ∙ k))
+
+    -- at an open top the rule answers
+    pub rule-answers : Now-open ≡ state (means a.space).problem.variables (means a.space).problem.width (means a.space).pile → at_top (ruling (means a.space) (rules a.rule)) (means a.space).base (means a.space).pile ≡ None → ⊥
+    rule-answers h e = go (means a.space).pile refl e
+      where
+        go : (p : List Node) → (means a.space).pile ≡ p → at_top (ruling (means a.space) (rules a.rule)) (means a.space).base p ≡ None → ⊥
+        go [] i n = subst (λ (p : List Node). Sitting (means a.space).problem (ruling (means a.space) (rules a.rule)) true p (means a.space).choices) i way
+        go (failed ∷ q) i n = let k : Now-open ≡ Now-failed = top-state Now-open h failed q i in let z : ◌≡◌ {A = ℕ} 0 1 = cc in omega arith
+        go (table T ∷ q) i n =
+            let k : Now-open ≡ Now-plan = top-state Now-open h (table T) q i ∙ ap (λ (o : Option (ℕ × ℕ)). state_of (found (means a.space).problem T o)) n in
+            let z : ◌≡◌ {A = ℕ} 0 1 = cc in omega arith
+
+    -- where the rule has no answer the top is not open
+    pub unanswered : at_top (ruling (means a.space) (rules a.rule)) (means a.space).base (means a.space).pile ≡ None → (N : Node) (q : List Node) → (means a.space).pile ≡ N ∷ q → state_of (visit (means a.space).problem (ruling (means a.space) (rules a.rule)) N) ≡ Now-open → ⊥
+    unanswered n N q e k =
+        let s = means a.space in
+        rule-answers (sym (top-state (state s.problem.variables s.problem.width s.pile) refl N q e ∙ k)) n
 
     -- whether something is left
 

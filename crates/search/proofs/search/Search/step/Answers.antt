@@ -1,8 +1,10 @@
-use Rattle.std.proofs.Common.{List, None, sym, refl, subst, arith}
+use Rattle.std.proofs.Common.{◌≢◌, List, None, sym, refl, subst, arith}
 use Rattle.tree.specs.Search.{Visit}
+use Rattle.spaces.specs.Calls.{state}
+use Rattle.spaces.specs.declared.space.State.TheVariants.{Open as Now-open}
 use Rattle.search.specs.Choosing.{ruling}
 use Rattle.search.specs.Sessions.{Visits}
-use Rattle.search.proofs.Steps.{way, first_step, later-step, no_step, take_moved, turn_moved, take_goes, turn_goes, unanswered}
+use Rattle.search.proofs.Steps.{way, first_step, later-step, no_step, rule-answers, take_moved, turn_moved, take_goes, turn_goes, unanswered}
 use Rattle.search.proofs.search.Search.step.Goals as goal
 use Rattle.search.proofs.search.Search.step.Goals.{in-Some+in_ok-take-in-Some, in-None+else-nodes-le1+in_ok-turn-in-None}
 
@@ -27,7 +29,10 @@ returns-then-nodes-le1 g c = λ se o.
     let means = g.P.Space.means in
     let picks = g.R.Rule.picks in
     let m = means s.space in
-    let none = no_step means g.P.Space.sound picks s se o (g.P.Space.laws s.space o.part).lawful (g.R.Rule.lawful s.rule m.problem) c.if-self.false (sym (c.in-None.ensures o.part)) (omega (arith, c.nodes.ensures o.part, c.if-nodes-le1.true)) in
+    let laws = (g.P.Space.laws s.space o.part).lawful in
+    let lawful = g.R.Rule.lawful s.rule m.problem in
+    let closed : state m.problem.variables m.problem.width m.pile ≢ Now-open = λ k. rule-answers means g.P.Space.sound picks s se o laws lawful (sym k) (sym (c.in-None.ensures o.part)) in
+    let none = no_step means g.P.Space.sound picks s se o laws lawful _ c.if-self.false refl closed (omega (arith, c.nodes.ensures o.part, c.if-nodes-le1.true)) in
     let V : List Visit → Type 0 = λ q. Visits m.problem (ruling m (picks s.rule)) q None q m.pile in
     (record { visits = subst V (sym none) refl; session = se; space = refl; rule = refl }, o)
 
