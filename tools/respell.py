@@ -5,7 +5,8 @@ usage: tools/respell.py            at the top of the repository: rewrites crates
 
 Types and facts become UpperCamelCase; functions, fields, constructors and lemmas become snake_case; a name that ended in '?' gets a verb.
 A dash stays only in a lemma whose parts are names themselves, as in length-row. It goes by whole words in .antt files and, in .rt files, in
-clauses and ghost items alone, so functions of src/ keep their names. It stops where two names would fall together.
+clauses and ghost items alone, so functions of src/ keep their names. It says where two names would fall together. A field behind a
+variable named a, c, g, l or w stays, since Rattle gives such names to the facts of a goal: those few were turned by hand.
 """
 
 import glob
