@@ -9,14 +9,16 @@ pub struct Set {
     pub word: u64,
 }
 
-impl Set {
-    // The set whose members are the places of the digits 1 in the word.
-    pub fn of(word: u64) -> Set
-        ensures { result ≡ record { word = word } }
-    {
+// The set whose members are the places of the digits 1 in the word.
+impl From<u64> for Set {
+    ghost from_gives = { λ word r. r ≡ record { word = word } };
+
+    fn from(word: u64) -> Set {
         Set { word }
     }
+}
 
+impl Set {
     pub fn empty() -> Set
         ensures { Empty (has result.word) }
     {

@@ -38,7 +38,7 @@ impl<S: Store> WordTable<S> {
             return Err(TableFault::NoSuch(x));
         }
         let word = self.store.read(x)?;
-        Ok(Set::of(word))
+        Ok(Set::from(word))
     }
 
     // The domain of x, where v is a value.
