@@ -16,6 +16,8 @@ use Rattle.kinds.specs.Laws.{Filled}
 use Rattle.kinds.specs.Passes.{Alive, Dead}
 use Rattle.kinds.specs.Sofar.{Sofar}
 use Rattle.kinds.specs.declared.shrunk.Shrunk.{Shrunk}
+use Rattle.kinds.specs.declared.shrunk.Shrunk.TheVariants.{Filled, Failed}
+use Rattle.kinds.specs.Shrunk.{set_of, has_failed}
 use Rattle.kinds.proofs.Passing.{sofar-none, nothing_yet}
 use Rattle.atmost.specs.Linear.{low, lows, term, others, listed, all_within, stable, meets}
 use Rattle.atmost.specs.Trims.{End, Barred, Trimmed}
@@ -111,7 +113,7 @@ far-end u t room v end fits = by (upward t.coefficient) refl end
     )
 
 module _ (n : ℕ) (A : Demand) (s : TableState) (t : Term) (room : ℤ) (before : TableState) (turn : ℕ) (found : Set) (u : TableState) (go : Going n A s t before turn found u) where
-  pub trim_ends : (v : ℕ) → End u t.variable (upward t.coefficient) (Ok (Some v)) → (t.coefficient *ℤ pos v) ≤ℤ room → Trimmed n A s t room before (record { set = found; failed = false }) u
+  pub trim_ends : (v : ℕ) → End u t.variable (upward t.coefficient) (Ok (Some v)) → (t.coefficient *ℤ pos v) ≤ℤ room → Trimmed n A s t room before (Filled found) u
   trim_ends v end fits = record {
     sofar = go.sofar;
     apart = λ z d a. (a.0, go.apart z a.0 d a.1);
@@ -123,7 +125,7 @@ module _ (n : ℕ) (A : Demand) (s : TableState) (t : Term) (room : ℤ) (before
       p : (u.domains t.variable v ≡ true) × ((k : ℕ) → u.domains t.variable k ≡ true → (t.coefficient *ℤ pos k) ≤ℤ room)
       p = far-end u t room v end fits
 
-  pub trim_empty : Dead u.domains t.variable → Trimmed n A s t room before (record { set = found; failed = true }) u
+  pub trim_empty : Dead u.domains t.variable → Trimmed n A s t room before (Failed found) u
   trim_empty none = record {
     sofar = go.sofar;
     apart = λ z d a. (a.0, go.apart z a.0 d a.1);
@@ -188,7 +190,7 @@ module _ (n : ℕ) (ts : List Term) (b : ℤ) (s : TableState) where
       omega (arith, ints, p, q, e, o, r)
 
   pub main_trim : (k : ℕ) (set : Set) (t : TableState) (room : ℤ) (r : Shrunk) (u : TableState) → k < length ts
-      → Main n ts b s k set t → Room ts b s k t room → Trimmed n (demand_of stable meets s.width (at_most b ts)) s (term ts k) room t r u → r.failed ≡ false → Main n ts b s (k + 1) r.set u
+      → Main n ts b s k set t → Room ts b s k t room → Trimmed n (demand_of stable meets s.width (at_most b ts)) s (term ts k) room t r u → has_failed r ≡ false → Main n ts b s (k + 1) (set_of r) u
   main_trim k set t room r u l m is e nf = record {
     sofar = e.sofar;
     full = λ z a. ⊎_elim (λ q. subst (Alive u.domains) (sym q) (e.full nf)) (λ d. e.apart z d (m.full z a)) (cases_eq z (term ts k).variable);
@@ -202,8 +204,8 @@ module _ (n : ℕ) (ts : List Term) (b : ℤ) (s : TableState) where
         );
   }
     where
-      yet : Empty (has r.set.word) → Empty (has set.word)
-      yet z = nothing_yet n (demand_of stable meets s.width (at_most b ts)) s set r.set t u m.sofar e.sofar (e.none nf z).0 z
+      yet : Empty (has (set_of r).word) → Empty (has set.word)
+      yet z = nothing_yet n (demand_of stable meets s.width (at_most b ts)) s set (set_of r) t u m.sofar e.sofar (e.none nf z).0 z
 
       last : (v : ℕ) → t ≡ s → ((v : ℕ) → t.domains (term ts k).variable v ≡ true → ((term ts k).coefficient *ℤ pos v) ≤ℤ room)
           → s.domains (term ts k).variable v ≡ true → ((term ts k).coefficient *ℤ pos v +ℤ lows s.width s.domains (others ts k)) ≤ℤ b

@@ -11,6 +11,7 @@ use Rattle.kinds.specs.Laws.{Filled}
 use Rattle.kinds.specs.Passes.{Alive, Dead}
 use Rattle.kinds.specs.Sofar.{Sofar}
 use Rattle.kinds.specs.declared.shrunk.Shrunk.{Shrunk}
+use Rattle.kinds.specs.Shrunk.{set_of, has_failed}
 use Rattle.atmost.specs.Linear.{low, lows, listed}
 
 -- the greatest value, or the least
@@ -42,11 +43,11 @@ Barred n A s t room = (S : Table) → Filled n S → A.stable S ≡ true → Ins
 
 -- The values of the term above the room were taken away, until none was left.
 pub record Trimmed (n : ℕ) (A : Demand) (s : TableState) (t : Term) (room : ℤ) (before : TableState) (r : Shrunk) (after : TableState) : Type 0 where
-  pub sofar : Sofar n A s r.set after
+  pub sofar : Sofar n A s (set_of r) after
   pub apart : (z : ℕ) → z ≢ t.variable → Alive before.domains z → Alive after.domains z
-  pub empty : r.failed ≡ true → Dead after.domains t.variable
-  pub full : r.failed ≡ false → Alive after.domains t.variable
-  pub none : r.failed ≡ false → Empty (has r.set.word) → (after ≡ before) × ((v : ℕ) → before.domains t.variable v ≡ true → (t.coefficient *ℤ pos v) ≤ℤ room)
+  pub empty : has_failed r ≡ true → Dead after.domains t.variable
+  pub full : has_failed r ≡ false → Alive after.domains t.variable
+  pub none : has_failed r ≡ false → Empty (has (set_of r).word) → (after ≡ before) × ((v : ℕ) → before.domains t.variable v ≡ true → (t.coefficient *ℤ pos v) ≤ℤ room)
 
 abbrev pub Trims : ℕ → Demand → TableState → Term → ℤ → TableState → TableState → Result Shrunk TableFault → Type 0
 Trims n A s t room before after (Ok r) = Trimmed n A s t room before r after

@@ -16,7 +16,7 @@ pub struct SumAtMost;
 impl Kind for SumAtMost {
     const NUMBER: u16 = AtMost::NUMBER;
 
-    ghost number = { 2 };
+    ghost NUMBER = { 2 };
 
     ghost stable = { stable-at-most };
 
@@ -28,22 +28,15 @@ impl Kind for SumAtMost {
 
     ghost singles = { Laws.singles };
 
-    fn code() -> u16 {
-        Self::NUMBER
-    }
-
     fn pass<T: DomainTable>(
         &self,
         model: &Model,
         item: usize,
         table: &mut T,
     ) -> Result<Shrunk, TableFault> {
-        let Some(constraint) = model.constraint(item) else {
-            return Ok(Shrunk::none());
-        };
-        match constraint {
-            Constraint::AtMost { bound, terms } => narrow(terms, bound, table),
-            Constraint::Different { variables: _ } => Ok(Shrunk::none()),
+        match model.constraint(item) {
+            Some(Constraint::AtMost { bound, terms }) => narrow(terms, bound, table),
+            _ => Ok(Shrunk::none()),
         }
     }
 }

@@ -32,12 +32,8 @@ fn low<T: DomainTable>(table: &T, term: Term) -> Option<i64>
     ensures value { T.DomainTable.sound table.now → Part (T.DomainTable.means table.now) term result }
     ensures bound { (z : ℤ) → result ≡ Some z → Small z }
 {
-    let Ok(found) = end(table, term.variable as usize, term.coefficient < 0) else {
-        return None;
-    };
-    let Some(v) = found else {
-        return None;
-    };
+    let found = end(table, term.variable as usize, term.coefficient < 0).ok()?;
+    let v = found?;
     Some(i64::from(term.coefficient) * i64::from(v))
 }
 
@@ -48,11 +44,8 @@ fn total<T: DomainTable>(table: &T, terms: &[Term]) -> Option<i64>
     ensures bound { (z : ℤ) → result ≡ Some z → SmallSum 64 z }
 {
     let mut sum: i64 = 0;
-    for k in 0..terms.len() {
-        let Some(part) = low(table, terms[k]) else {
-            return None;
-        };
-        sum += part;
+    for term in terms {
+        sum += low(table, *term)?;
     }
     Some(sum)
 }
@@ -70,24 +63,15 @@ fn trim<T: DomainTable>(
     let mut found = set;
     for _turn in 0..TURNS {
         let Some(v) = end(table, x, term.coefficient >= 0)? else {
-            return Ok(Shrunk {
-                set: found,
-                failed: true,
-            });
+            return Ok(Shrunk::Failed(found));
         };
         if i64::from(term.coefficient) * i64::from(v) <= room {
-            return Ok(Shrunk {
-                set: found,
-                failed: false,
-            });
+            return Ok(Shrunk::Filled(found));
         }
         let _ = table.drop(x, v)?;
         found = found.with(x);
     }
-    Ok(Shrunk {
-        set: found,
-        failed: true,
-    })
+    Ok(Shrunk::Failed(found))
 }
 
 // One pass: the sum of the terms is at most the bound.
@@ -100,22 +84,17 @@ pub fn narrow<T: DomainTable>(
     ensures { Keeps T.DomainTable.sound table.old table.new ((n : ℕ) → ((x : ℕ) → listed terms.now x ≡ true → x < n) → Passes n (demand_of stable meets (T.DomainTable.means table.old).width (at_most bound terms.now)) (T.DomainTable.means table.old) (T.DomainTable.means table.new) result) }
 {
     let Some(total) = total(table, terms) else {
-        return Ok(Shrunk {
-            set: Set::empty(),
-            failed: true,
-        });
+        return Ok(Shrunk::Failed(Set::empty()));
     };
     let mut set = Set::empty();
-    for k in 0..terms.len() {
-        let term = terms[k];
-        let Some(part) = low(table, term) else {
-            return Ok(Shrunk { set, failed: true });
+    for term in terms {
+        let Some(part) = low(table, *term) else {
+            return Ok(Shrunk::Failed(set));
         };
-        let shrunk = trim(table, term, i64::from(bound) - (total - part), set)?;
-        if shrunk.failed {
-            return Ok(shrunk);
+        match trim(table, *term, i64::from(bound) - (total - part), set)? {
+            Shrunk::Filled(found) => set = found,
+            Shrunk::Failed(found) => return Ok(Shrunk::Failed(found)),
         }
-        set = shrunk.set;
     }
-    Ok(Shrunk { set, failed: false })
+    Ok(Shrunk::Filled(set))
 }

@@ -13,6 +13,7 @@ use Rattle.kinds.specs.Demands.{Demand, demand_of}
 use Rattle.kinds.specs.Passes.{Alive}
 use Rattle.kinds.specs.Sofar.{Sofar}
 use Rattle.kinds.specs.declared.shrunk.Shrunk.{Shrunk}
+use Rattle.kinds.specs.Shrunk.{set_of, has_failed}
 use Rattle.kinds.proofs.Passing.{sofar-none, nothing_yet}
 use Rattle.different.specs.Different.{apart, stable, meets}
 use Rattle.different.specs.Expels.{Alone, Crowds, Barred, Expelled}
@@ -88,7 +89,7 @@ module _ (n : ℕ) (A : Demand) (s : TableState) (xs : List ℕ) where
 
   pub main_expel : (k v : ℕ) (set : Set) (t : TableState) (r : Shrunk) (u : TableState)
       → Main n A s xs k set t → ((w : ℕ) → t.domains (get_or xs k 0) w ≡ true → w ≡ v)
-      → Expelled n A s xs (get_or xs k 0) v t r u → r.failed ≡ false → Main n A s xs (k + 1) r.set u
+      → Expelled n A s xs (get_or xs k 0) v t r u → has_failed r ≡ false → Main n A s xs (k + 1) (set_of r) u
   main_expel k v set t r u m only e nf = record {
     sofar = e.sofar;
     full = λ z a. e.full nf z (m.full z a);
@@ -99,8 +100,8 @@ module _ (n : ℕ) (A : Demand) (s : TableState) (xs : List ℕ) where
         (p.0 ∙ q.0, (j.none (yet z)).1);
   }
     where
-      yet : Empty (has r.set.word) → Empty (has set.word)
-      yet z = nothing_yet n A s set r.set t u m.sofar e.sofar (e.none nf z).0 z
+      yet : Empty (has (set_of r).word) → Empty (has set.word)
+      yet z = nothing_yet n A s set (set_of r) t u m.sofar e.sofar (e.none nf z).0 z
 
 module _ (n : ℕ) (s : TableState) (xs : List ℕ) (b : Bounds s) where
   A : Demand

@@ -10,6 +10,7 @@ use Rattle.kinds.specs.Laws.{Filled}
 use Rattle.kinds.specs.Passes.{Alive, Dead}
 use Rattle.kinds.specs.Sofar.{Sofar}
 use Rattle.kinds.specs.declared.shrunk.Shrunk.{Shrunk}
+use Rattle.kinds.specs.Shrunk.{set_of, has_failed}
 
 -- the value of x, if it is single
 abbrev pub Alone : TableState → ℕ → Result (Option ℕ) TableFault → Type 0
@@ -39,10 +40,10 @@ Barred n A s xs x v = (S : Table) → Filled n S → A.stable S ≡ true → Ins
 
 -- From t on, v was taken from the listed variables other than x, until one was empty.
 pub record Expelled (n : ℕ) (A : Demand) (s : TableState) (xs : List ℕ) (x v : ℕ) (t : TableState) (r : Shrunk) (u : TableState) : Type 0 where
-  pub sofar : Sofar n A s r.set u
-  pub empty : r.failed ≡ true → (y : ℕ) × (among y xs ≡ true) × Dead u.domains y × ((z : ℕ) → z ≢ y → Alive t.domains z → Alive u.domains z)
-  pub full : r.failed ≡ false → (z : ℕ) → Alive t.domains z → Alive u.domains z
-  pub none : r.failed ≡ false → Empty (has r.set.word) → (u ≡ t) × ((y : ℕ) → among y xs ≡ true → y ≢ x → t.domains y v ≡ false)
+  pub sofar : Sofar n A s (set_of r) u
+  pub empty : has_failed r ≡ true → (y : ℕ) × (among y xs ≡ true) × Dead u.domains y × ((z : ℕ) → z ≢ y → Alive t.domains z → Alive u.domains z)
+  pub full : has_failed r ≡ false → (z : ℕ) → Alive t.domains z → Alive u.domains z
+  pub none : has_failed r ≡ false → Empty (has (set_of r).word) → (u ≡ t) × ((y : ℕ) → among y xs ≡ true → y ≢ x → t.domains y v ≡ false)
 
 abbrev pub Expels : ℕ → Demand → TableState → List ℕ → ℕ → ℕ → TableState → TableState → Result Shrunk TableFault → Type 0
 Expels n A s xs x v t u (Ok r) = Expelled n A s xs x v t r u

@@ -16,7 +16,7 @@ pub struct AllDifferent;
 impl Kind for AllDifferent {
     const NUMBER: u16 = Different::NUMBER;
 
-    ghost number = { 3 };
+    ghost NUMBER = { 3 };
 
     ghost stable = { stable-different };
 
@@ -28,22 +28,15 @@ impl Kind for AllDifferent {
 
     ghost singles = { Laws.singles };
 
-    fn code() -> u16 {
-        Self::NUMBER
-    }
-
     fn pass<T: DomainTable>(
         &self,
         model: &Model,
         item: usize,
         table: &mut T,
     ) -> Result<Shrunk, TableFault> {
-        let Some(constraint) = model.constraint(item) else {
-            return Ok(Shrunk::none());
-        };
-        match constraint {
-            Constraint::Different { variables } => separate(variables, table),
-            Constraint::AtMost { bound: _, terms: _ } => Ok(Shrunk::none()),
+        match model.constraint(item) {
+            Some(Constraint::Different { variables }) => separate(variables, table),
+            _ => Ok(Shrunk::none()),
         }
     }
 }

@@ -16,6 +16,7 @@ use Rattle.kinds.specs.Demands.{Demands, demanded}
 use Rattle.kinds.specs.Problems.{Asks, Laws, together}
 use Rattle.kinds.specs.Passes.{Alive, Dead, Narrows, Passed}
 use Rattle.kinds.specs.declared.shrunk.Shrunk.{Shrunk}
+use Rattle.kinds.specs.Shrunk.{set_of, has_failed}
 use Rattle.filtering.specs.Waits.{queue, Once, Orderly, Idle, woken}
 use Rattle.filtering.specs.Filters.{does_begin, Begins, Narrowed, FilledUp}
 use Rattle.filtering.proofs.Queues.{once-few, woken-left, woken_only}
@@ -96,11 +97,11 @@ module _ (A : Asks) (laws : Laws A) where
       pub narrowed_on : Narrowed (together A) s u
       narrowed_on = narrowed_more s t u item first_known mid.narrowed p.narrows
 
-      filled : r.failed ≡ false → Full (together A) u.domains
+      filled : has_failed r ≡ false → Full (together A) u.domains
       filled nf x h = ⊎_elim (λ n. p.full nf x n) (λ n. let a = mid.full x h in (a.0, p.narrows.named x a.0 n a.1)) (cases_Bool ((A.demand item).names x))
 
       -- nothing was taken away
-      pub none_mid : Empty (has r.set.word) → r.failed ≡ false → Orderly m → Mid A s u m (round + 1)
+      pub none_mid : Empty (has (set_of r).word) → has_failed r ≡ false → Orderly m → Mid A s u m (round + 1)
       none_mid z nf ord = record {
         orderly = ord;
         narrowed = narrowed_on;
@@ -116,7 +117,7 @@ module _ (A : Asks) (laws : Laws A) where
           same : t.domains ≡ u.domains
           same = inside_both t.domains u.domains (λ x v. p.shrunk.same x v (z x)) p.narrows.inside
 
-      module _ (vs : t.variables ≡ A.variables) (ws : t.width ≡ A.width) (b : Bounds t) (some : (x : ℕ) × (has r.set.word x ≡ true)) where
+      module _ (vs : t.variables ≡ A.variables) (ws : t.width ≡ A.width) (b : Bounds t) (some : (x : ℕ) × (has (set_of r).word x ≡ true)) where
         gone : (v : ℕ) × (t.domains some.0 v ≡ true) × (u.domains some.0 v ≡ false)
         gone = p.shrunk.smaller some.0 some.1
 
@@ -129,16 +130,16 @@ module _ (A : Asks) (laws : Laws A) where
         named_gone = ⊎_elim (λ y. y) (λ n. absurd (both_ways (u.domains some.0 gone.0) gone.2 (p.narrows.named some.0 gone.0 n gone.1))) (cases_Bool ((A.demand item).names some.0))
 
         -- a variable that changed is one of the model's
-        changed_below : (x : ℕ) → has r.set.word x ≡ true → x < A.variables
+        changed_below : (x : ℕ) → has (set_of r).word x ≡ true → x < A.variables
         changed_below x h = let g = p.shrunk.smaller x h in omega (arith, (b.within x g.0 g.1).0, vs)
 
         -- a record that was not woken names no variable that changed
-        untouched : (R : ℕ → Bool) → ((i : ℕ) → R i ≡ false → (x : ℕ) → x < A.variables → has r.set.word x ≡ true → A.names i x ≡ false)
-            → (i x : ℕ) → R i ≡ false → (A.demand i).names x ≡ true → has r.set.word x ≡ false
-        untouched R f i x n named = ⊎_elim (λ h. absurd (both_ways (A.names i x) (f i n x (changed_below x h) h) (laws.names i x named))) (λ h. h) (cases_Bool (has r.set.word x))
+        untouched : (R : ℕ → Bool) → ((i : ℕ) → R i ≡ false → (x : ℕ) → x < A.variables → has (set_of r).word x ≡ true → A.names i x ≡ false)
+            → (i x : ℕ) → R i ≡ false → (A.demand i).names x ≡ true → has (set_of r).word x ≡ false
+        untouched R f i x n named = ⊎_elim (λ h. absurd (both_ways (A.names i x) (f i n x (changed_below x h) h) (laws.names i x named))) (λ h. h) (cases_Bool (has (set_of r).word x))
 
-        pub some_mid : (w : WaitingList) (R : ℕ → Bool) → ((i : ℕ) → R i ≡ false → (x : ℕ) → x < A.variables → has r.set.word x ≡ true → A.names i x ≡ false)
-            → r.failed ≡ false → queue w ≡ woken R A.count (queue m) → Orderly w → Mid A s u w (round + 1)
+        pub some_mid : (w : WaitingList) (R : ℕ → Bool) → ((i : ℕ) → R i ≡ false → (x : ℕ) → x < A.variables → has (set_of r).word x ≡ true → A.names i x ≡ false)
+            → has_failed r ≡ false → queue w ≡ woken R A.count (queue m) → Orderly w → Mid A s u w (round + 1)
         some_mid w R f nf wakes ord = record {
           orderly = ord;
           narrowed = narrowed_on;
@@ -146,7 +147,7 @@ module _ (A : Asks) (laws : Laws A) where
           rest = λ i h n.
               let k = woken-left R A.count (queue m) i (ap (among i) (sym wakes) ∙ n) in
               ⊎_elim
-              (λ q. absurd (both_ways (has r.set.word some.0) (untouched R f i some.0 (k.1 h) (ap (λ (j : ℕ). (A.demand j).names some.0) q ∙ named_gone)) some.1))
+              (λ q. absurd (both_ways (has (set_of r).word some.0) (untouched R f i some.0 (k.1 h) (ap (λ (j : ℕ). (A.demand j).names some.0) q ∙ named_gone)) some.1))
               (λ d. (laws.keeps i h).rests u.domains t.domains (λ x v y. same_test (u.domains x v) (t.domains x v) (p.narrows.inside x v) (p.shrunk.same x v (untouched R f i x (k.1 h) y))) ∙ popped i h k.0 d)
               (cases_eq i item);
           known = λ i h. ⊎_elim (still_known i) (λ k. k) (woken_only R A.count (queue m) i (ap (among i) (sym wakes) ∙ h));

@@ -11,6 +11,7 @@ use Rattle.kinds.specs.Laws.{Filled}
 use Rattle.kinds.specs.Passes.{Narrows, Alive, Dead, Passed}
 use Rattle.kinds.specs.Sofar.{Sofar}
 use Rattle.kinds.specs.declared.shrunk.Shrunk.{Shrunk}
+use Rattle.kinds.specs.Shrunk.{set_of, has_failed}
 
 -- All named variables have a value.
 abbrev pub Living : Demand → Table → Type 0
@@ -76,26 +77,26 @@ emptied_named : (n : ℕ) (A : Demand) (s u : TableState) → Narrows n A s u �
 emptied_named n A s u w x a d = ⊎_elim (λ h. h) (λ h. absurd (both_ways (u.domains x a.0) (d a.0) (w.named x a.0 h a.1))) (cases_Bool (A.names x))
 
 -- a named domain was empty or missing at the start
-pub passed_still : (n : ℕ) (A : Demand) (s : TableState) (r : Shrunk) (x : ℕ) → Empty (has r.set.word) → r.failed ≡ true → A.names x ≡ true → Dead s.domains x → Passed n A s r s
+pub passed_still : (n : ℕ) (A : Demand) (s : TableState) (r : Shrunk) (x : ℕ) → Empty (has (set_of r).word) → has_failed r ≡ true → A.names x ≡ true → Dead s.domains x → Passed n A s r s
 passed_still n A s r x none f nx dead = record {
-  narrows = (sofar-none n A s r.set none).narrows;
-  shrunk = (sofar-none n A s r.set none).shrunk;
+  narrows = (sofar-none n A s (set_of r) none).narrows;
+  shrunk = (sofar-none n A s (set_of r) none).shrunk;
   still = λ y k d. refl;
   empty = λ e. (x, nx, dead);
-  full = λ e. absurd (both_ways r.failed e f);
+  full = λ e. absurd (both_ways (has_failed r) e f);
   stops = λ y z a d. absurd (not_both s.domains y a d);
   stable = λ z full. absurd (not_both s.domains x (full x nx) dead);
 }
 
 -- it emptied the domain of x, and stopped
-pub passed_empty : (n : ℕ) (A : Demand) (s : TableState) (r : Shrunk) (u : TableState) (x : ℕ) → Sofar n A s r.set u → Living A s.domains → r.failed ≡ true → A.names x ≡ true → Dead u.domains x
+pub passed_empty : (n : ℕ) (A : Demand) (s : TableState) (r : Shrunk) (u : TableState) (x : ℕ) → Sofar n A s (set_of r) u → Living A s.domains → has_failed r ≡ true → A.names x ≡ true → Dead u.domains x
     → ((y : ℕ) → A.names y ≡ true → (y ≡ x → ⊥) → Alive u.domains y) → Passed n A s r u
 passed_empty n A s r u x so living f nx dead others = record {
   narrows = so.narrows;
   shrunk = so.shrunk;
   still = λ y k d. absurd (not_both s.domains y (living y k) d);
   empty = λ e. (x, nx, dead);
-  full = λ e. absurd (both_ways r.failed e f);
+  full = λ e. absurd (both_ways (has_failed r) e f);
   stops = λ y z ay dy az dz. only y ay dy ∙ sym (only z az dz);
   stable = λ z full. absurd (not_both u.domains x (full x nx) dead);
 }
@@ -104,13 +105,13 @@ passed_empty n A s r u x so living f nx dead others = record {
     only y a d = ⊎_elim (λ q. q) (λ q. absurd (not_both u.domains y (others y (emptied_named n A s u so.narrows y a d) q) d)) (cases_eq y x)
 
 -- no domain is empty
-pub passed_full : (n : ℕ) (A : Demand) (s : TableState) (r : Shrunk) (u : TableState) → Sofar n A s r.set u → Living A s.domains → r.failed ≡ false → Living A u.domains
-    → (Empty (has r.set.word) → A.stable u.domains ≡ true) → Passed n A s r u
+pub passed_full : (n : ℕ) (A : Demand) (s : TableState) (r : Shrunk) (u : TableState) → Sofar n A s (set_of r) u → Living A s.domains → has_failed r ≡ false → Living A u.domains
+    → (Empty (has (set_of r).word) → A.stable u.domains ≡ true) → Passed n A s r u
 passed_full n A s r u so living f full st = record {
   narrows = so.narrows;
   shrunk = so.shrunk;
   still = λ y k d. absurd (not_both s.domains y (living y k) d);
-  empty = λ e. absurd (both_ways r.failed f e);
+  empty = λ e. absurd (both_ways (has_failed r) f e);
   full = λ e. full;
   stops = λ y z a d. absurd (not_both u.domains y (full y (emptied_named n A s u so.narrows y a d)) d);
   stable = λ z k. st z;

@@ -2,5 +2,6 @@ pub mod Demands
 pub mod Laws
 pub mod Problems
 pub mod Passes
+pub mod Shrunk
 pub mod Sofar
 pub mod Theorems

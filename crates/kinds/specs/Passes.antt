@@ -8,6 +8,7 @@ use Rattle.tables.specs.declared.table.TableFault.{TableFault}
 use Rattle.kinds.specs.Demands.{Demand}
 use Rattle.kinds.specs.Laws.{Filled}
 use Rattle.kinds.specs.declared.shrunk.Shrunk.{Shrunk}
+use Rattle.kinds.specs.Shrunk.{set_of, has_failed}
 
 -- Values are only taken away, only from named domains, and none that a stable table inside has, of n variables without an empty
 -- domain. Variables, width, saved tables and depth are as they were.
@@ -31,16 +32,16 @@ Dead T x = (v : ℕ) → T x v ≡ false
 
 pub record Passed (n : ℕ) (A : Demand) (s : TableState) (r : Shrunk) (t : TableState) : Type 0 where
   pub narrows : Narrows n A s t
-  pub shrunk : Smaller s r.set t
+  pub shrunk : Smaller s (set_of r) t
   -- nothing is done where a named domain is empty or missing
   pub still : (x : ℕ) → A.names x ≡ true → Dead s.domains x → t ≡ s
   -- the answer says whether a named domain is empty or missing
-  pub empty : r.failed ≡ true → (x : ℕ) × (A.names x ≡ true) × Dead t.domains x
-  pub full : r.failed ≡ false → (x : ℕ) → A.names x ≡ true → Alive t.domains x
+  pub empty : has_failed r ≡ true → (x : ℕ) × (A.names x ≡ true) × Dead t.domains x
+  pub full : has_failed r ≡ false → (x : ℕ) → A.names x ≡ true → Alive t.domains x
   -- it stops when it empties one: no two domains get empty
   pub stops : (x y : ℕ) → Alive s.domains x → Dead t.domains x → Alive s.domains y → Dead t.domains y → x ≡ y
   -- where nothing was taken away and no named domain is empty or missing the table is stable
-  pub stable : Empty (has r.set.word) → ((x : ℕ) → A.names x ≡ true → Alive t.domains x) → A.stable t.domains ≡ true
+  pub stable : Empty (has (set_of r).word) → ((x : ℕ) → A.names x ≡ true → Alive t.domains x) → A.stable t.domains ≡ true
 
 -- A pass over a sound table is never refused.
 abbrev pub Passes : ℕ → Demand → TableState → TableState → Result Shrunk TableFault → Type 0

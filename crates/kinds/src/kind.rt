@@ -16,16 +16,12 @@ pub trait Kind {
     // the number by which the reader and the bank know the kind
     const NUMBER: u16;
 
-    ghost number: { ℕ };
+    ghost NUMBER: { ℕ };
 
     // when a table is stable for a record, and when values meet it
     ghost stable: { Stable };
 
     ghost meets: { Meets };
-
-    // The number.
-    fn code() -> u16
-        ensures { result ≡ number };
 
     // Runs the record over the table, once. It does nothing if there is no such record, or if it is of another kind.
     fn pass<T: DomainTable>(
@@ -34,13 +30,13 @@ pub trait Kind {
         item: usize,
         table: &mut T,
     ) -> Result<Shrunk, TableFault>
-        ensures { Keeps T.DomainTable.sound table.old table.new (Passes (length (windows model.now)) (demanded (with_kind number stable meets no_demands) (T.DomainTable.means table.old).width (slice_get (records model.now) item)) (T.DomainTable.means table.old) (T.DomainTable.means table.new) result) };
+        ensures { Keeps T.DomainTable.sound table.old table.new (Passes (length (windows model.now)) (demanded (with_kind NUMBER stable meets no_demands) (T.DomainTable.means table.old).width (slice_get (records model.now) item)) (T.DomainTable.means table.old) (T.DomainTable.means table.new) result) };
 
-    ghost joins: { Joins number stable };
+    ghost joins: { Joins NUMBER stable };
 
-    ghost rests: { Rests number stable };
+    ghost rests: { Rests NUMBER stable };
 
-    ghost singles: { Singles number stable meets };
+    ghost singles: { Singles NUMBER stable meets };
 }
 
 // A set of kinds, with at most one for each number.
