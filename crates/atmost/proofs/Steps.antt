@@ -16,7 +16,7 @@ use Rattle.kinds.specs.Laws.{Filled}
 use Rattle.kinds.specs.Passes.{Alive, Dead}
 use Rattle.kinds.specs.Sofar.{Sofar}
 use Rattle.kinds.specs.declared.shrunk.Shrunk.{Shrunk}
-use Rattle.kinds.specs.declared.shrunk.Shrunk.TheVariants.{Filled, Failed}
+use Rattle.kinds.specs.declared.shrunk.Shrunk.TheVariants.{Live, Failed}
 use Rattle.kinds.specs.Shrunk.{set_of, has_failed}
 use Rattle.kinds.proofs.Passing.{sofar-none, nothing_yet}
 use Rattle.atmost.specs.Linear.{low, lows, term, others, listed, all_within, stable, meets}
@@ -113,7 +113,7 @@ far-end u t room v end fits = by (upward t.coefficient) refl end
     )
 
 module _ (n : ℕ) (A : Demand) (s : TableState) (t : Term) (room : ℤ) (before : TableState) (turn : ℕ) (found : Set) (u : TableState) (go : Going n A s t before turn found u) where
-  pub trim_ends : (v : ℕ) → End u t.variable (upward t.coefficient) (Ok (Some v)) → (t.coefficient *ℤ pos v) ≤ℤ room → Trimmed n A s t room before (Filled found) u
+  pub trim_ends : (v : ℕ) → End u t.variable (upward t.coefficient) (Ok (Some v)) → (t.coefficient *ℤ pos v) ≤ℤ room → Trimmed n A s t room before (Live found) u
   trim_ends v end fits = record {
     sofar = go.sofar;
     apart = λ z d a. (a.0, go.apart z a.0 d a.1);

@@ -32,9 +32,10 @@ fn low<T: DomainTable>(table: &T, term: Term) -> Option<i64>
     ensures value { T.DomainTable.sound table.now → Part (T.DomainTable.means table.now) term result }
     ensures bound { (z : ℤ) → result ≡ Some z → Small z }
 {
-    let found = end(table, term.variable as usize, term.coefficient < 0).ok()?;
-    let v = found?;
-    Some(i64::from(term.coefficient) * i64::from(v))
+    match end(table, term.variable as usize, term.coefficient < 0) {
+        Ok(Some(v)) => Some(i64::from(term.coefficient) * i64::from(v)),
+        _ => None,
+    }
 }
 
 // The sum of the lows, if each variable has a value.
@@ -66,7 +67,7 @@ fn trim<T: DomainTable>(
             return Ok(Shrunk::Failed(found));
         };
         if i64::from(term.coefficient) * i64::from(v) <= room {
-            return Ok(Shrunk::Filled(found));
+            return Ok(Shrunk::Live(found));
         }
         let _ = table.drop(x, v)?;
         found = found.with(x);
@@ -92,9 +93,9 @@ pub fn narrow<T: DomainTable>(
             return Ok(Shrunk::Failed(set));
         };
         match trim(table, *term, i64::from(bound) - (total - part), set)? {
-            Shrunk::Filled(found) => set = found,
+            Shrunk::Live(found) => set = found,
             Shrunk::Failed(found) => return Ok(Shrunk::Failed(found)),
         }
     }
-    Ok(Shrunk::Filled(set))
+    Ok(Shrunk::Live(set))
 }

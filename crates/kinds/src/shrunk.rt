@@ -8,7 +8,7 @@ use bits::Set;
 #[derive(Clone, Copy, PartialEq, Eq, Debug)]
 pub enum Shrunk {
     // Every domain of the record has a value.
-    Filled(Set),
+    Live(Set),
     // A domain of the record is empty or missing.
     Failed(Set),
 }
@@ -18,6 +18,6 @@ impl Shrunk {
     pub fn none() -> Shrunk
         ensures { (Empty (has (set_of result).word)) × (has_failed result ≡ false) }
     {
-        Shrunk::Filled(Set::empty())
+        Shrunk::Live(Set::empty())
     }
 }

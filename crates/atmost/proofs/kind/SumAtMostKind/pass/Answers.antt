@@ -15,19 +15,19 @@ use Rattle.atmost.proofs.kind.SumAtMostKind.pass.Goals as goal
 pub narrow-requires : goal.narrow-requires
 narrow-requires g c =
     let m = c.args.model.now in
-    let ts = c.in-AtMost.terms.now in
-    let is : slice_get (records m) c.args.item ≡ Some (at_most c.in-AtMost.bound ts) = subst (λ (z : Constraint). Shows (records m) c.args.item (Some z)) c.in-AtMost.is c.in-Some.ensures in
-    omega (arith, (named (means m) m.valid c.args.item (at_most c.in-AtMost.bound ts) is).few, map-length ts)
+    let ts = c.in-Some-AtMost.terms.now in
+    let is : slice_get (records m) c.args.item ≡ Some (at_most c.in-Some-AtMost.bound ts) = subst (λ (z : Constraint). Shows (records m) c.args.item (Some z)) c.in-Some-AtMost.field-0-is c.in-Some-AtMost.ensures in
+    omega (arith, (named (means m) m.valid c.args.item (at_most c.in-Some-AtMost.bound ts) is).few, map-length ts)
 
-pub returns-in-AtMost : goal.returns-in-AtMost
-returns-in-AtMost g c = λ sd.
+pub returns-in-Some-AtMost : goal.returns-in-Some-AtMost
+returns-in-Some-AtMost g c = λ sd.
     let m = c.args.model.now in
-    let b = c.in-AtMost.bound in
-    let ts = c.in-AtMost.terms.now in
+    let b = c.in-Some-AtMost.bound in
+    let ts = c.in-Some-AtMost.terms.now in
     let s = g.T.DomainTable.means c.args.table.now in
     let u = g.T.DomainTable.means c.narrow.new.table in
     let r = c.narrow.result in
-    let is : slice_get (records m) c.args.item ≡ Some (at_most b ts) = subst (λ (z : Constraint). Shows (records m) c.args.item (Some z)) c.in-AtMost.is c.in-Some.ensures in
+    let is : slice_get (records m) c.args.item ≡ Some (at_most b ts) = subst (λ (z : Constraint). Shows (records m) c.args.item (Some z)) c.in-Some-AtMost.field-0-is c.in-Some-AtMost.ensures in
     let did = c.narrow.ensures sd in
     let fits : SFits w32 b = search rules in
     let n = length (windows m) in
