@@ -31,23 +31,19 @@ fn alone<T: DomainTable>(table: &T, x: usize) -> Result<Option<u8>, TableFault>
 fn held<T: DomainTable>(table: &T, x: usize) -> Set
     ensures { T.DomainTable.sound table.now → has result.word ≡ (T.DomainTable.means table.now).domains x }
 {
-    let Ok(domain) = table.domain(x) else {
-        return Set::empty();
-    };
-    domain
+    match table.domain(x) {
+        Ok(domain) => domain,
+        Err(_) => Set::empty(),
+    }
 }
 
 // The value of a single variable, if it is one of those that two variables had.
 fn crowding<T: DomainTable>(table: &T, x: usize, twice: Set) -> Result<Option<u8>, TableFault>
     ensures { T.DomainTable.sound table.now → Crowds (T.DomainTable.means table.now) x (has twice.word) result }
 {
-    let Some(v) = alone(table, x)? else {
-        return Ok(None);
-    };
-    if twice.has(usize::from(v)) {
-        Ok(Some(v))
-    } else {
-        Ok(None)
+    match alone(table, x)? {
+        Some(v) if twice.has(usize::from(v)) => Ok(Some(v)),
+        _ => Ok(None),
     }
 }
 
@@ -55,13 +51,7 @@ fn crowding<T: DomainTable>(table: &T, x: usize, twice: Set) -> Result<Option<u8
 fn lives<T: DomainTable>(table: &T, x: usize) -> bool
     ensures { T.DomainTable.sound table.now → Lives (T.DomainTable.means table.now) x result }
 {
-    let Ok(found) = table.least(x) else {
-        return false;
-    };
-    let Some(_) = found else {
-        return false;
-    };
-    true
+    matches!(table.least(x), Ok(Some(_)))
 }
 
 // Takes v from the listed variables other than x, until one is empty.
@@ -75,24 +65,18 @@ fn expel<T: DomainTable>(
     ensures { Keeps T.DomainTable.sound table.old table.new ((n : ℕ) (D : Demand) (s : TableState) → Lists D listed.now (T.DomainTable.means table.old) → v < (T.DomainTable.means table.old).width → Barred n D s listed.now x v → Sofar n D s set (T.DomainTable.means table.old) → Expels n D s listed.now x v (T.DomainTable.means table.old) (T.DomainTable.means table.new) result) }
 {
     let mut found = set;
-    for k in 0..listed.len() {
-        let y = listed[k] as usize;
+    for y in listed {
+        let y = *y as usize;
         if y != x {
             if table.drop(y, v)? {
                 found = found.with(y);
                 if !lives(table, y) {
-                    return Ok(Shrunk {
-                        set: found,
-                        failed: true,
-                    });
+                    return Ok(Shrunk::Failed(found));
                 }
             }
         }
     }
-    Ok(Shrunk {
-        set: found,
-        failed: false,
-    })
+    Ok(Shrunk::Live(found))
 }
 
 // One pass: takes the value of each single listed variable from all others, until one is empty. Only values that two of them had
@@ -102,27 +86,23 @@ pub fn separate<T: DomainTable>(listed: &[u8], table: &mut T) -> Result<Shrunk, 
 {
     let mut once = Set::empty();
     let mut twice = Set::empty();
-    for k in 0..listed.len() {
-        let domain = held(table, listed[k] as usize);
+    for x in listed {
+        let domain = held(table, *x as usize);
         if domain.is_empty() {
-            return Ok(Shrunk {
-                set: Set::empty(),
-                failed: true,
-            });
+            return Ok(Shrunk::Failed(Set::empty()));
         }
         twice = twice.union(once.common(domain));
         once = once.union(domain);
     }
     let mut set = Set::empty();
-    for k in 0..listed.len() {
-        let x = listed[k] as usize;
+    for x in listed {
+        let x = *x as usize;
         if let Some(v) = crowding(table, x, twice)? {
-            let shrunk = expel(table, listed, x, v, set)?;
-            if shrunk.failed {
-                return Ok(shrunk);
+            match expel(table, listed, x, v, set)? {
+                Shrunk::Live(found) => set = found,
+                Shrunk::Failed(found) => return Ok(Shrunk::Failed(found)),
             }
-            set = shrunk.set;
         }
     }
-    Ok(Shrunk { set, failed: false })
+    Ok(Shrunk::Live(set))
 }

@@ -12,37 +12,37 @@ use Rattle.kinds.proofs.Passing.{sofar-drop, drop-none}
 use Rattle.different.proofs.expel.expel.Goals as goal
 use Rattle.different.proofs.expel.expel.Goals.{then-y-x+in_ok-drop+then-branch+else-not-lives, then-y-x+in_ok-drop+else-branch, else-y-x}
 
-pub loop-k-init : goal.loop-k-init
-loop-k-init g c = λ sd. (λ n A s ls lt bar so. going_none n A s _ _ _ _ _ so, sd)
+pub loop-y-init : goal.loop-y-init
+loop-y-init g c = λ sd. (λ n A s ls lt bar so. going_none n A s _ _ _ _ _ so, sd)
 
 pub returns-in_err-drop : goal.returns-in_err-drop
 returns-in_err-drop g c = λ sd.
-    let inv = c.loop-k.invariant sd in
+    let inv = c.loop-y.invariant sd in
     let did = c.in_err-drop.ensures.does inv.1 in
     let xs = c.args.listed.now in
-    let y = get_or xs c.loop-k.k 0 in (
+    let y = get_or xs c.loop-y.y-index 0 in (
       λ n A s ls lt bar so.
           let go = inv.0 n A s ls lt bar so in
-          absurd (⊎_elim (λ h. omega (arith, h, go.variables, ls.there y (at-among xs c.loop-k.k c.loop-k-test.true))) (λ h. omega (arith, h, go.width, lt)) did.0.0),
+          absurd (⊎_elim (λ h. omega (arith, h, go.variables, ls.there y (at-among xs c.loop-y.y-index c.loop-y-test.true))) (λ h. omega (arith, h, go.width, lt)) did.0.0),
       did.1,
     )
 
 pub returns-then-not-lives : goal.returns-then-not-lives
 returns-then-not-lives g c = λ sd.
     let means = g.T.DomainTable.means in
-    let inv = c.loop-k.invariant sd in
+    let inv = c.loop-y.invariant sd in
     let did = c.in_ok-drop.ensures.does inv.1 in
     let xs = c.args.listed.now in
-    let y = get_or xs c.loop-k.k 0 in
-    let ay = at-among xs c.loop-k.k c.loop-k-test.true in
+    let y = get_or xs c.loop-y.y-index 0 in
+    let ay = at-among xs c.loop-y.y-index c.loop-y-test.true in
     let t = means c.args.table.now in
-    let u = means c.loop-k.table in
+    let u = means c.loop-y.table in
     let w = means c.drop.new.self in
     let b = g.T.DomainTable.bounded c.args.table.now sd in (
       λ n A s ls lt bar so.
           let go = inv.0 n A s ls lt bar so in
           record {
-            sofar = sofar-drop n A s c.loop-k.found c.with-found.result u w y c.args.v go.sofar (ls.names y ∙ ay) (λ S f st ins. bar S f st ins y ay c.if-y-x.true) (sym did.0.3 ∙ c.if-branch.true) (c.with-found.ensures.within (omega (arith, ls.there y ay, b.few))) did.0.2;
+            sofar = sofar-drop n A s c.loop-y.found c.with-found.result u w y c.args.v go.sofar (ls.names y ∙ ay) (λ S f st ins. bar S f st ins y ay c.if-y-x.true) (sym did.0.3 ∙ c.if-branch.true) (c.with-found.ensures.within (omega (arith, ls.there y ay, b.few))) did.0.2;
             empty = λ e. (y, ay, c.if-not-lives.ensures did.1, λ z d a. others_live n A s xs c.args.x c.args.v t u w y did.0.2 z d (go.full z a));
             full = λ nf. absurd (both_ways true nf refl);
             none = λ nf. absurd (both_ways true nf refl);
@@ -50,19 +50,19 @@ returns-then-not-lives g c = λ sd.
       did.1,
     )
 
-pub loop-k-preserved : goal.loop-k-preserved
-loop-k-preserved g c = λ sd.
+pub loop-y-preserved : goal.loop-y-preserved
+loop-y-preserved g c = λ sd.
     let means = g.T.DomainTable.means in
-    let inv = c.loop-k.invariant sd in
+    let inv = c.loop-y.invariant sd in
     let xs = c.args.listed.now in
-    let k = c.loop-k.k in
+    let k = c.loop-y.y-index in
     let y = get_or xs k 0 in
-    let ay = at-among xs k c.loop-k-test.true in
+    let ay = at-among xs k c.loop-y-test.true in
     let t = means c.args.table.now in
-    let u = means c.loop-k.table in
+    let u = means c.loop-y.table in
     let x = c.args.x in
     let v = c.args.v in
-    let found = c.loop-k.found in
+    let found = c.loop-y.found in
     let b = g.T.DomainTable.bounded c.args.table.now sd in
     let Goal : Set → g.row.T.Denot → Type 0 = λ f z.
     ((n : ℕ) (A : Demand) (s : TableState) → Lists A xs t → v < t.width → Barred n A s xs x v → Sofar n A s c.args.set t → Going n A s xs x v t (k + 1) f (means z)) × g.T.DomainTable.sound z in
@@ -98,7 +98,7 @@ loop-k-preserved g c = λ sd.
 
 pub returns : goal.returns
 returns g c = λ sd.
-    let inv = c.loop-k.invariant sd in
+    let inv = c.loop-y.invariant sd in
     let xs = c.args.listed.now in
     let t = g.T.DomainTable.means c.args.table.now in (
       λ n A s ls lt bar so.
@@ -111,7 +111,7 @@ returns g c = λ sd.
               p.0,
               λ y ay d.
                   let i = among-at xs y ay in
-                  ap (λ (j : ℕ). t.domains j c.args.v) (sym i.2) ∙ p.1 i.0 (omega (arith, i.1, c.loop-k-test.false)) (λ q. d (sym i.2 ∙ q)),
+                  ap (λ (j : ℕ). t.domains j c.args.v) (sym i.2) ∙ p.1 i.0 (omega (arith, i.1, c.loop-y-test.false)) (λ q. d (sym i.2 ∙ q)),
             );
           },
       inv.1,

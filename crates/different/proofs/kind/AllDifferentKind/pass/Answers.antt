@@ -10,13 +10,13 @@ use Rattle.kinds.proofs.Validity.{named}
 use Rattle.different.specs.Different.{stable, meets}
 use Rattle.different.proofs.kind.AllDifferentKind.pass.Goals as goal
 
-pub returns-in-Different : goal.returns-in-Different
-returns-in-Different g c = λ sd.
+pub returns-in-Some-Different : goal.returns-in-Some-Different
+returns-in-Some-Different g c = λ sd.
     let m = c.args.model.now in
-    let xs = c.in-Different.variables.now in
+    let xs = c.in-Some-Different.variables.now in
     let s = g.T.DomainTable.means c.args.table.now in
     let u = g.T.DomainTable.means c.separate.new.table in
-    let is : slice_get (records m) c.args.item ≡ Some (different xs) = subst (λ (z : Constraint). Shows (records m) c.args.item (Some z)) c.in-Different.is c.in-Some.ensures in
+    let is : slice_get (records m) c.args.item ≡ Some (different xs) = subst (λ (z : Constraint). Shows (records m) c.args.item (Some z)) c.in-Some-Different.field-0-is c.in-Some-Different.ensures in
     let did = c.separate.ensures sd in (
       subst (λ (o : Option Record). Passes (length (windows m)) (demanded (with_kind 3 stable meets no_demands) s.width o) s u c.separate.result) (sym is)
           (did.0 (length (windows m)) (named (means m) m.valid c.args.item (different xs) is).below),
