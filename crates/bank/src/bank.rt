@@ -3,7 +3,6 @@ ghost use Rattle.model.specs.Meaning.{records};
 ghost use Rattle.std.specs.List.{slice_get};
 ghost use Rattle.kinds.specs.Demands.{with_kind, no_demands};
 ghost use Rattle.bank.specs.Numbers.{numbered};
-ghost use Rattle.std.proofs.Common.{rules};
 ghost use Rattle.bank.specs.Banks;
 
 use kinds::kind::{Kind, Kinds};
@@ -17,12 +16,9 @@ use tables::table::{DomainTable, TableFault};
 fn number_at(model: &Model, item: usize) -> Option<u16>
     ensures { result ≡ numbered (slice_get (records model.now) item) }
 {
-    let Some(constraint) = model.constraint(item) else {
-        return None;
-    };
-    match constraint {
-        Constraint::AtMost { bound: _, terms: _ } => Some(AtMost::NUMBER),
-        Constraint::Different { variables: _ } => Some(Different::NUMBER),
+    match model.constraint(item)? {
+        Constraint::AtMost { .. } => Some(AtMost::NUMBER),
+        Constraint::Different { .. } => Some(Different::NUMBER),
     }
 }
 
@@ -33,7 +29,7 @@ pub struct NoKinds;
 impl Kinds for NoKinds {
     ghost demands = { no_demands };
 
-    ghost lawful = { Prim.search rules };
+    ghost lawful = { Banks.none-lawful };
 
     fn pass<T: DomainTable>(
         &self,
@@ -53,9 +49,9 @@ pub struct Bank<K: Kind, R: Kinds> {
 }
 
 impl<K: Kind, R: Kinds> Kinds for Bank<K, R> {
-    ghost demands = { with_kind K.Kind.number K.Kind.stable K.Kind.meets R.Kinds.demands };
+    ghost demands = { with_kind K.Kind.NUMBER K.Kind.stable K.Kind.meets R.Kinds.demands };
 
-    ghost lawful = { Banks.lawful K.Kind.number K.Kind.stable K.Kind.meets R.Kinds.demands K.Kind.joins K.Kind.rests K.Kind.singles R.Kinds.lawful };
+    ghost lawful = { Banks.lawful K.Kind.NUMBER K.Kind.stable K.Kind.meets R.Kinds.demands K.Kind.joins K.Kind.rests K.Kind.singles R.Kinds.lawful };
 
     fn pass<T: DomainTable>(
         &self,
@@ -63,10 +59,7 @@ impl<K: Kind, R: Kinds> Kinds for Bank<K, R> {
         item: usize,
         table: &mut T,
     ) -> Result<Shrunk, TableFault> {
-        let Some(number) = number_at(model, item) else {
-            return Ok(Shrunk::none());
-        };
-        if number == K::code() {
+        if number_at(model, item) == Some(K::NUMBER) {
             self.kind.pass(model, item, table)
         } else {
             self.rest.pass(model, item, table)

@@ -3,7 +3,8 @@ use Rattle.std.proofs.Common.{◌≡◌, ℕ, zero, suc, ◌+◌, ◌-◌, ◌%�
 use Rattle.std.proofs.lemmas.Bool.{or_cases, or_left, or_right, or_parts, or_from, cases_eq, cases_Bool, cond_both, cond-true, cond-false, eqb-true, eqb-false, eq-eqb, ne_eqb}
 use Rattle.tree.specs.Domains.{size}
 use Rattle.model.specs.Reading.{among}
-use Rattle.filtering.specs.Waits.{around, Once, behind, woken}
+use Rattle.filtering.specs.Rings.{around, Once}
+use Rattle.filtering.specs.Waits.{behind, woken}
 
 -- places
 
@@ -108,6 +109,13 @@ once-size n (j ∷ q) o f =
 -- records below n that wait once each are n at most
 pub once-few : (n : ℕ) (q : List ℕ) → Once q → ((i : ℕ) → among i q ≡ true → i < n) → length q ≤ n
 once-few n q o f = omega (arith, size_le (λ i. among i q) n, once-size n q o f)
+
+-- a ring whose places are records below 64 that stand once each has room for one that does not stand there
+pub room : (ring : List ℕ) (h n item : ℕ) → Once (around ring h n) → ((i : ℕ) → among i (around ring h n) ≡ true → i < 64) → item < 64 → among item (around ring h n) ≡ false → n < 64
+room ring h n item once below lt out =
+    let q = around ring h n in
+    let few = once-few 64 (item ∷ q) (out, once) (λ i e. ⊎_elim (λ k. let j = eqb-true i item k in omega (arith, j, lt)) (below i) (or_cases (eqb i item) (among i q) e)) in
+    omega (arith, few, around-length ring h n)
 
 -- the word without the first
 pub without_first : (i : ℕ) (b : Bool) (j : ℕ) → (i ≡ j → b ≡ false) → ((eqb i j || b) && not (eqb i j)) ≡ b

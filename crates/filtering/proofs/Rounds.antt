@@ -17,7 +17,7 @@ use Rattle.kinds.specs.Problems.{Asks, Laws, together}
 use Rattle.kinds.specs.Passes.{Alive, Dead, Narrows, Passed}
 use Rattle.kinds.specs.declared.shrunk.Shrunk.{Shrunk}
 use Rattle.kinds.specs.Shrunk.{set_of, has_failed}
-use Rattle.filtering.specs.Waits.{queue, Once, Orderly, Idle, woken}
+use Rattle.filtering.specs.Waits.{queue, Orderly, Idle, woken}
 use Rattle.filtering.specs.Filters.{does_begin, Begins, Narrowed, FilledUp}
 use Rattle.filtering.proofs.Queues.{once-few, woken-left, woken_only}
 use Rattle.filtering.specs.declared.list.WaitingList.{WaitingList}
@@ -30,19 +30,15 @@ left A T q = total (together A) T * 65 + length q
 
 -- Between two rounds: a record that does not wait is stable.
 pub record Mid (A : Asks) (s t : TableState) (l : WaitingList) (round : ℕ) : Type 0 where
-  pub orderly : Orderly l
   pub narrowed : Narrowed (together A) s t
   pub full : Full (together A) t.domains
   pub rest : (i : ℕ) → i < A.count → among i (queue l) ≡ false → (A.demand i).stable t.domains ≡ true
   pub known : (i : ℕ) → among i (queue l) ≡ true → i < A.count
   pub enough : left A t.domains (queue l) + round ≤ 266304
 
-pub idle-orderly : (l : WaitingList) → Idle l → Orderly l
-idle-orderly l e = record {
-  set = λ i. e.1 i ∙ sym (ap (among i) e.0);
-  once = subst Once (sym e.0) tt;
-  below = λ i h. absurd (both_ways (among i (queue l)) (ap (among i) e.0) h);
-}
+-- every list is in order
+pub orderly : (l : WaitingList) → Orderly l
+orderly l = record { set = l.set_is; once = l.once; below = l.below }
 
 module _ (A : Asks) (laws : Laws A) where
   few-values : (s : TableState) → s.variables ≡ A.variables → s.width ≡ A.width → Bounds s → total (together A) s.domains ≤ 4096
@@ -53,8 +49,8 @@ module _ (A : Asks) (laws : Laws A) where
       let q = mul-le-mul n w in
       omega (arith, p, q)
 
-  pub few_waiting : (l : WaitingList) → Orderly l → length (queue l) ≤ 64
-  few_waiting l o = once-few 64 (queue l) o.once o.below
+  few_waiting : (l : WaitingList) → length (queue l) ≤ 64
+  few_waiting l = once-few 64 (queue l) l.once l.below
 
   pub narrowed_none : (s : TableState) → Narrowed (together A) s s
   narrowed_none s = record { others = refl; inside = λ x v h. h; keeps = λ S f. f.inside }
@@ -69,14 +65,13 @@ module _ (A : Asks) (laws : Laws A) where
   -- what waits at first
   pub start_mid : (s : TableState) (start : Start) (R : ℕ → Bool) (q : List ℕ) (l : WaitingList) → s.variables ≡ A.variables → s.width ≡ A.width → Bounds s
       → ((x : ℕ) → x < s.variables → Alive s.domains x) → ((i : ℕ) → i < A.count → R i ≡ false → (A.demand i).stable s.domains ≡ true)
-      → q ≡ [] → queue l ≡ woken R A.count q → Orderly l → Mid A s s l 0
-  start_mid s start R q l vs ws b f settled e w ord = record {
-    orderly = ord;
+      → q ≡ [] → queue l ≡ woken R A.count q → Mid A s s l 0
+  start_mid s start R q l vs ws b f settled e w = record {
     narrowed = narrowed_none s;
     full = λ x h. f x (omega (arith, vs, h));
     rest = λ i h n. settled i h ((woken-left R A.count q i (ap (among i) (sym w) ∙ n)).1 h);
     known = λ i h. ⊎_elim (λ k. absurd (both_ways (among i q) (ap (among i) e) k)) (λ k. k) (woken_only R A.count q i (ap (among i) (sym w) ∙ h));
-    enough = omega (arith, few-values s vs ws b, few_waiting l ord);
+    enough = omega (arith, few-values s vs ws b, few_waiting l);
   }
 
   module _ (s t : TableState) (l m : WaitingList) (round item : ℕ) (mid : Mid A s t l round) (e : queue l ≡ item ∷ queue m) where
@@ -101,9 +96,8 @@ module _ (A : Asks) (laws : Laws A) where
       filled nf x h = ⊎_elim (λ n. p.full nf x n) (λ n. let a = mid.full x h in (a.0, p.narrows.named x a.0 n a.1)) (cases_Bool ((A.demand item).names x))
 
       -- nothing was taken away
-      pub none_mid : Empty (has (set_of r).word) → has_failed r ≡ false → Orderly m → Mid A s u m (round + 1)
-      none_mid z nf ord = record {
-        orderly = ord;
+      pub none_mid : Empty (has (set_of r).word) → has_failed r ≡ false → Mid A s u m (round + 1)
+      none_mid z nf = record {
         narrowed = narrowed_on;
         full = filled nf;
         rest = λ i h n. ⊎_elim
@@ -139,9 +133,8 @@ module _ (A : Asks) (laws : Laws A) where
         untouched R f i x n named = ⊎_elim (λ h. absurd (both_ways (A.names i x) (f i n x (changed_below x h) h) (laws.names i x named))) (λ h. h) (cases_Bool (has (set_of r).word x))
 
         pub some_mid : (w : WaitingList) (R : ℕ → Bool) → ((i : ℕ) → R i ≡ false → (x : ℕ) → x < A.variables → has (set_of r).word x ≡ true → A.names i x ≡ false)
-            → has_failed r ≡ false → queue w ≡ woken R A.count (queue m) → Orderly w → Mid A s u w (round + 1)
-        some_mid w R f nf wakes ord = record {
-          orderly = ord;
+            → has_failed r ≡ false → queue w ≡ woken R A.count (queue m) → Mid A s u w (round + 1)
+        some_mid w R f nf wakes = record {
           narrowed = narrowed_on;
           full = filled nf;
           rest = λ i h n.
@@ -151,7 +144,7 @@ module _ (A : Asks) (laws : Laws A) where
               (λ d. (laws.keeps i h).rests u.domains t.domains (λ x v y. same_test (u.domains x v) (t.domains x v) (p.narrows.inside x v) (p.shrunk.same x v (untouched R f i x (k.1 h) y))) ∙ popped i h k.0 d)
               (cases_eq i item);
           known = λ i h. ⊎_elim (still_known i) (λ k. k) (woken_only R A.count (queue m) i (ap (among i) (sym wakes) ∙ h));
-          enough = omega (arith, fewer, mid.enough, few_waiting w ord, shorter);
+          enough = omega (arith, fewer, mid.enough, few_waiting w, shorter);
         }
 
   -- a variable has no value left, so that no table fits
@@ -185,10 +178,10 @@ filled_false s b e h = subst (λ (z : Bool). FilledUp s (Ok z)) e h
 -- before the first round
 pub at_first : (A : Asks) (laws : Laws A) (rs : List Record) (s : TableState) (start : Start) (R : ℕ → Bool) (k : ℕ) (before after : WaitingList) → A.names ≡ does_name rs → s.variables ≡ A.variables → s.width ≡ A.width → Bounds s
     → ((x : ℕ) → x < s.variables → Alive s.domains x) → Begins (together A) start s.domains → ((i : ℕ) → i < A.count → R i ≡ does_begin rs start i) → k ≡ A.count
-    → Idle before → (Orderly before → k ≤ 64 → (queue after ≡ woken R k (queue before)) × Orderly after) → Mid A s s after 0
+    → Idle before → (k ≤ 64 → queue after ≡ woken R k (queue before)) → Mid A s s after 0
 at_first A laws rs s start R k before after e vs ws b f begins is ke idle wakes =
-    let w = wakes (idle-orderly before idle) (omega (arith, ke, laws.few)) in
-    start_mid A laws s start R (queue before) after vs ws b f (λ i h n. settled A laws rs start s.domains e begins i h (sym (is i h) ∙ n)) idle.0 (w.0 ∙ ap (λ (j : ℕ). woken R j (queue before)) ke) w.1
+    let w = wakes (omega (arith, ke, laws.few)) in
+    start_mid A laws s start R (queue before) after vs ws b f (λ i h n. settled A laws rs start s.domains e begins i h (sym (is i h) ∙ n)) idle.0 (w ∙ ap (λ (j : ℕ). woken R j (queue before)) ke)
 
 -- a pass goes by the width of the table before it, which is that of the first
 pub same_width : (D : Demands) (n : ℕ) (o : Option Record) (P : Problem) (s t u : TableState) (r : Shrunk) → Narrowed P s t → Passed n (demanded D t.width o) t r u → Passed n (demanded D s.width o) t r u

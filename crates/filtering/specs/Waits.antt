@@ -2,21 +2,12 @@
 use Rattle.std.specs.Prelude.{◌≡◌, ℕ, zero, suc, ◌%◌, ◌<◌, Bool, true, false, cond, List, [], ◌∷◌, ◌++◌, Some, None, Option, slice_index}
 use Rattle.bits.specs.Bit.{has, Empty}
 use Rattle.model.specs.Reading.{among}
+use Rattle.filtering.specs.Rings.{around, Once}
 use Rattle.filtering.specs.declared.list.WaitingList.{WaitingList}
-
--- n places of a ring of 64, from the place h on
-abbrev pub around : List ℕ → ℕ → ℕ → List ℕ
-around ring h zero = []
-around ring h (suc n) = slice_index ring (h % 64) ∷ around ring (suc h) n
 
 -- The records that wait, in their order.
 abbrev pub queue : WaitingList → List ℕ
 queue l = around l.ring l.head l.len
-
--- None stands twice.
-abbrev pub Once : List ℕ → Type 0
-Once [] = Unit {0}
-Once (j ∷ js) = (among j js ≡ false) × Once js
 
 -- The set holds what waits, no record waits twice, and all are below 64.
 pub record Orderly (l : WaitingList) : Type 0 where

@@ -3,12 +3,13 @@ ghost use Rattle.bits.specs.Bit.{has};
 ghost use Rattle.stores.specs.Rows.{Keeps};
 ghost use Rattle.model.specs.Meaning.{means as model-means, windows, records};
 ghost use Rattle.kinds.specs.Problems.{problem};
-ghost use Rattle.filtering.specs.Waits.{queue, Orderly, Idle, woken};
+ghost use Rattle.filtering.specs.Waits.{queue, Idle, woken};
 ghost use Rattle.filtering.specs.Filters.{does_begin, Begins, Filters, FilledUp, NamesSome};
 
 use crate::list::WaitingList;
 use bits::Set;
 use kinds::kind::Kinds;
+use kinds::shrunk::Shrunk;
 use model::model::Model;
 use tables::table::{DomainTable, TableFault};
 
@@ -49,7 +50,7 @@ fn naming_some(model: &Model, variables: Set) -> Set
 
 // Lets the records of the set below count wait, in the order of their numbers.
 fn wake(list: &mut WaitingList, set: Set, count: usize)
-    ensures { Orderly list.old → count ≤ 64 → (queue list.new ≡ woken (has set.word) count (queue list.old)) × Orderly list.new }
+    ensures { count ≤ 64 → queue list.new ≡ woken (has set.word) count (queue list.old) }
 {
     for i in 0..count {
         if set.has(i) {
@@ -89,12 +90,12 @@ fn run<T: DomainTable, K: Kinds>(
         let Some(item) = list.pop() else {
             return Ok(true);
         };
-        let shrunk = kinds.pass(model, item, table)?;
-        if shrunk.failed {
-            return Ok(false);
-        }
-        if !shrunk.set.is_empty() {
-            wake(list, naming_some(model, shrunk.set), count);
+        let shrunk = match kinds.pass(model, item, table)? {
+            Shrunk::Live(shrunk) => shrunk,
+            Shrunk::Failed(_) => return Ok(false),
+        };
+        if !shrunk.is_empty() {
+            wake(list, naming_some(model, shrunk), count);
         }
     }
     Ok(false)

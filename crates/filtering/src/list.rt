@@ -1,21 +1,29 @@
-ghost use Rattle.std.specs.Prelude.{◌≡◌, ◌<◌, ◌≤◌};
-ghost use Rattle.filtering.specs.Waits.{queue, Orderly, Idle, behind, Pops};
+ghost use Rattle.std.specs.Prelude.{◌≡◌, ℕ, ◌<◌, true};
+ghost use Rattle.bits.specs.Bit.{has};
+ghost use Rattle.model.specs.Reading.{among};
+ghost use Rattle.filtering.specs.Rings.{around, Once, Once-prop};
 
 use bits::Set;
 
 // How many records can wait: as many as a model has at most.
 const ROOM: usize = 64;
 
-// The records that wait, first in first out: `len` places of the ring from `head` on, and the set of them.
+// The records that wait, first in first out: `len` places of the ring from `head` on, and the set of them. None stands twice.
 #[derive(Clone, Copy)]
 pub struct WaitingList {
     ring: [u8; 64],
     set: Set,
     head: usize,
     len: usize,
+    ghost set_is: { (i : ℕ) → has set.word i ≡ among i (around ring head len) },
+    ghost once: { Once (around ring head len) } by { Once-prop (around ring head len) },
+    ghost below: { (i : ℕ) → among i (around ring head len) ≡ true → i < 64 },
 }
 
 impl WaitingList {
+    ghost use Rattle.std.specs.Prelude.{◌≤◌};
+    ghost use Rattle.filtering.specs.Waits.{queue, Idle, behind, Pops};
+
     pub fn new() -> WaitingList
         ensures { Idle result }
     {
@@ -37,19 +45,13 @@ impl WaitingList {
 
     // The record waits behind all others, unless it waits already or is none that a model can have.
     pub fn push(&mut self, item: usize)
-        ensures waits { Orderly self.old → item < 64 → (queue self.new ≡ behind (queue self.old) item) × Orderly self.new }
+        ensures waits { item < 64 → queue self.new ≡ behind (queue self.old) item }
         ensures past { 64 ≤ item → self.new ≡ self.old }
     {
-        if item >= ROOM {
-            return;
-        }
-        if self.set.has(item) {
+        if item >= ROOM || self.set.has(item) {
             return;
         }
         let len = self.len;
-        if len >= ROOM {
-            return;
-        }
         let at = (self.head % ROOM + len) % ROOM;
         self.ring[at] = item as u8;
         self.set = self.set.with(item);
@@ -58,16 +60,15 @@ impl WaitingList {
 
     // The record that has waited longest, which waits no more; none where no record waits.
     pub fn pop(&mut self) -> Option<usize>
-        ensures { Orderly self.old → Pops (queue self.old) result (queue self.new) × Orderly self.new }
+        ensures { Pops (queue self.old) result (queue self.new) }
     {
-        let len = self.len;
-        if len == 0 {
+        if self.len == 0 {
             return None;
         }
         let head = self.head % ROOM;
         let item = self.ring[head] as usize;
         self.head = head + 1;
-        self.len = len - 1;
+        self.len -= 1;
         self.set = self.set.without(item);
         Some(item)
     }

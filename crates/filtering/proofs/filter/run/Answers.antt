@@ -3,6 +3,7 @@ use Rattle.std.specs.List.{slice_get}
 use Rattle.bits.specs.Bit.{has}
 use Rattle.model.specs.Meaning.{means as model-means, windows, records}
 use Rattle.tables.specs.States.{TableState}
+use Rattle.kinds.specs.declared.shrunk.Shrunk.TheVariants.{Live, Failed}
 use Rattle.kinds.specs.Problems.{asks, together}
 use Rattle.kinds.proofs.Validity.{model_laws, demanded-below}
 use Rattle.filtering.specs.Waits.{queue, woken}
@@ -39,7 +40,7 @@ returns-in_default g c = λ idle sd.
       λ vs b.
           let mid0 = at_first A laws (records m) s c.args.start (has c.first.result.word) c.records-count.result c.args.list.now c.wake.new.list refl vs refl (g.T.DomainTable.bounded c.args.table.now sd) full b c.first.ensures c.records-count.ensures idle c.wake.ensures in
           let mid = inv.0 vs mid0 in
-          (mid.narrowed, done A laws s t c.loop-round.list c.loop-round._round mid (c.in_default.ensures mid.orderly).0.0),
+          (mid.narrowed, done A laws s t c.loop-round.list c.loop-round._round mid (c.in_default.ensures).0),
       inv.1,
     )
 
@@ -48,8 +49,8 @@ returns-in_err-shrunk g c = λ idle sd.
     let did = c.in_err-shrunk.ensures (c.loop-round.invariant sd).1 in
     (λ vs b. absurd did.0, did.1)
 
-pub returns-then-shrunk : goal.returns-then-shrunk
-returns-then-shrunk g c = λ idle sd.
+pub returns-in-Failed : goal.returns-in-Failed
+returns-in-Failed g c = λ idle sd.
     let m = c.args.model.now in
     let D = g.K.Kinds.demands in
     let s = g.T.DomainTable.means c.args.table.now in
@@ -60,15 +61,15 @@ returns-then-shrunk g c = λ idle sd.
     let full = filled_true s c.in_ok-filled.field-0 c.if-not-branch.false (c.in_ok-filled.ensures sd) in
     let inv = c.loop-round.invariant sd in
     let item = c.in-Some.item in
-    let r = c.in_ok-shrunk.shrunk in
-    let did = c.in_ok-shrunk.ensures inv.1 in (
+    let r = Failed c.in-Failed.field-0 in
+    let did = (rw c.in-Failed.is at c.in_ok-shrunk.ensures) inv.1 in (
       λ vs b.
           let mid0 = at_first A laws (records m) s c.args.start (has c.first.result.word) c.records-count.result c.args.list.now c.wake.new.list refl vs refl (g.T.DomainTable.bounded c.args.table.now sd) full b c.first.ensures c.records-count.ensures idle c.wake.ensures in
           let mid = inv.0 vs mid0 in
-          let pops = c.in-Some.ensures mid.orderly in
+          let pops = c.in-Some.ensures in
           let p = same_width D (length (windows m)) (slice_get (records m) item) (together A) s t u r mid.narrowed did.0 in
-          let narrowed = narrowed_on A laws s t c.loop-round.list c.pop.new.self c.loop-round._round item mid pops.0 u r p in
-          let e = p.empty c.if-shrunk.true in
+          let narrowed = narrowed_on A laws s t c.loop-round.list c.pop.new.self c.loop-round._round item mid pops u r p in
+          let e = p.empty refl in
           let l = demanded-below D (model-means m) s.width item e.0 g.met.K.Kinds.lawful m.valid e.1 in
           (narrowed, none-fits A laws s u narrowed e.0 l e.2, (e.0, l, e.2)),
       did.1,
@@ -85,12 +86,12 @@ loop-round-preserved g c = λ sd.
     let laws = model_laws D (model-means m) s.width g.met.K.Kinds.lawful m.valid in
     let inv = c.loop-round.invariant sd in
     let item = c.in-Some.item in
-    let r = c.in_ok-shrunk.shrunk in
-    let did = c.in_ok-shrunk.ensures inv.1 in
+    let r = Live c.in-Live.shrunk in
+    let did = (rw c.in-Live.is at c.in_ok-shrunk.ensures) inv.1 in
     let bounds = g.T.DomainTable.bounded c.loop-round.table inv.1 in (
       λ vs mid0.
           let mid = inv.0 vs mid0 in
-          let pops = c.in-Some.ensures mid.orderly in
+          let pops = c.in-Some.ensures in
           let p = same_width D (length (windows m)) (slice_get (records m) item) (together A) s t u r mid.narrowed did.0 in
           let l = c.loop-round.list in
           let k = c.pop.new.self in
@@ -100,15 +101,15 @@ loop-round-preserved g c = λ sd.
             | then-not-is_empty w ↦
                 let count = c.records-count.result in
                 let names = w.naming_some.ensures in
-                let woke = w.wake-then-not-is_empty.ensures pops.1 (omega (arith, c.records-count.ensures, laws.few)) in
+                let woke = w.wake-then-not-is_empty.ensures (omega (arith, c.records-count.ensures, laws.few)) in
                 let R = has w.naming_some.result.word in
                 subst Goal (sym w.list-is)
-                (some_mid A laws s t l k round item mid pops.0 u r p
+                (some_mid A laws s t l k round item mid pops u r p
                 (ap (λ (z : TableState). z.variables) mid.narrowed.others ∙ vs) (ap (λ (z : TableState). z.width) mid.narrowed.others) bounds (c.is_empty.ensures.some w.if-not-is_empty.true)
-                w.wake-then-not-is_empty.new.list R names.none c.if-shrunk.false
-                (woke.0 ∙ ap (λ (j : ℕ). woken R j (queue k)) c.records-count.ensures) woke.1)
+                w.wake-then-not-is_empty.new.list R names.none refl
+                (woke ∙ ap (λ (j : ℕ). woken R j (queue k)) c.records-count.ensures))
             | else-not-is_empty w ↦
-                subst Goal (sym w.list-is) (none_mid A laws s t l k round item mid pops.0 u r p (c.is_empty.ensures.none w.if-not-is_empty.false) c.if-shrunk.false pops.1)
+                subst Goal (sym w.list-is) (none_mid A laws s t l k round item mid pops u r p (c.is_empty.ensures.none w.if-not-is_empty.false) refl)
           ],
       did.1,
     )

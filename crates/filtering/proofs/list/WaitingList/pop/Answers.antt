@@ -1,24 +1,25 @@
 use Rattle.std.proofs.Common.{ℕ, ◌+◌, ◌-◌, ◌%◌, Bool, not, ◌&&◌, eqb, get_or, ap, ◌∙◌, subst}
 use Rattle.std.proofs.lemmas.Bool.{or_right}
 use Rattle.model.specs.Reading.{among}
-use Rattle.filtering.specs.Waits.{around, Once}
+use Rattle.filtering.specs.Rings.{around, Once}
 use Rattle.filtering.proofs.Queues.{around-first, without_first}
 use Rattle.filtering.proofs.list.WaitingList.pop.Goals as goal
 
-pub returns : goal.returns
-returns c = λ o.
+pub invariant_of-self : goal.invariant_of-self
+invariant_of-self c =
     let l = c.args.self.now in
     let item = get_or l.ring (l.head % 64) 0 in
     let r = around l.ring (l.head % 64 + 1) (l.len - 1) in
-    let e = around-first l.ring l.head l.len c.if-len-eq0.false in
-    let once = subst Once e o.once in (
-      e,
-      record {
-        set = λ i.
-            c.without-self.ensures i ∙
-            ap (λ (b : Bool). b && not (eqb i item)) (o.set i ∙ ap (among i) e) ∙
-            without_first i (among i r) item (λ h. ap (λ (j : ℕ). among j r) h ∙ once.0);
-        once = once.1;
-        below = λ i h. o.below i (ap (among i) e ∙ or_right (eqb i item) (among i r) h);
-      },
-    )
+    let e = around-first l.ring l.head l.len c.if-self-eq0.false in
+    let once = subst Once e l.once in
+    record {
+      set_is = λ i.
+          c.without-self.ensures i ∙
+          ap (λ (b : Bool). b && not (eqb i item)) (l.set_is i ∙ ap (among i) e) ∙
+          without_first i (among i r) item (λ h. ap (λ (j : ℕ). among j r) h ∙ once.0);
+      once = once.1;
+      below = λ i h. l.below i (ap (among i) e ∙ or_right (eqb i item) (among i r) h);
+    }
+
+pub returns : goal.returns
+returns c = let l = c.args.self.now in around-first l.ring l.head l.len c.if-self-eq0.false
