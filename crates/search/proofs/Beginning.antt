@@ -6,27 +6,28 @@ use Rattle.tables.specs.States.{Within}
 use Rattle.spaces.specs.Pile.{SpaceState, piled, Standing}
 use Rattle.spaces.specs.Calls.{enters, Enters}
 use Rattle.search.specs.Choosing.{ruling}
-use Rattle.search.specs.Sessions.{view, Sits, Sound, Begun}
+use Rattle.search.specs.Sessions.{has_session, view, Sits, Sound, Begun}
 use Rattle.search.specs.declared.search.Search.{Search}
+use Rattle.search.specs.declared.search.Session.TheVariants.{Closed, Fresh}
 
 -- without a node no choice stands
 pub no_choices : (s : SpaceState) → Standing s s.pile → s.pile ≡ [] → s.choices ≡ []
 no_choices s o e = subst (Standing s) e o
 
 module _ {P R : Type 0} (means : P → SpaceState) (sound : P → Type 0) (picks : R → ℕ → ℕ → Rule) where
-  pub fresh_sound : (x : P) (r : R) → sound x → Sound means sound picks (record { space = x; rule = r; session = false; fresh = false })
+  pub fresh_sound : (x : P) (r : R) → sound x → Sound means sound picks (record { space = x; rule = r; session = Closed })
   fresh_sound x r o = record { part = o; sits = record { way = tt; deep = λ k. absurd (true≢false (sym k)); ready = λ k. absurd (true≢false (sym k)) } }
 
-  pub begun : (a : Search P R) (q : P) (u : Unit {0}) → a.session ≡ false → (means a.space).problem.variables ≤ (means a.space).depth → Within (means a.space).variables (means a.space).problem.width (means a.space).base → sound q → Enters (means a.space) (means q) (Ok u) →
-      Begun (view means picks a) (view means picks (record { space = q; rule = a.rule; session = true; fresh = true })) × Sound means sound picks (record { space = q; rule = a.rule; session = true; fresh = true })
+  pub begun : (a : Search P R) (q : P) (u : Unit {0}) → has_session a.session ≡ false → (means a.space).problem.variables ≤ (means a.space).depth → Within (means a.space).variables (means a.space).problem.width (means a.space).base → sound q → Enters (means a.space) (means q) (Ok u) →
+      Begun (view means picks a) (view means picks (record { space = q; rule = a.rule; session = Fresh })) × Sound means sound picks (record { space = q; rule = a.rule; session = Fresh })
   begun a q u idle deep within o en = go (means a.space).pile refl en
     where
       go : (p : List Node) → (means a.space).pile ≡ p → enters (means a.space) p (means q) (Ok u) →
-          Begun (view means picks a) (view means picks (record { space = q; rule = a.rule; session = true; fresh = true })) × Sound means sound picks (record { space = q; rule = a.rule; session = true; fresh = true })
+          Begun (view means picks a) (view means picks (record { space = q; rule = a.rule; session = Fresh })) × Sound means sound picks (record { space = q; rule = a.rule; session = Fresh })
       go (N ∷ p) e f = absurd f
       go [] e (ready, room, puts) =
           let s = means a.space in
-          let b : Search P R = record { space = q; rule = a.rule; session = true; fresh = true } in
+          let b : Search P R = record { space = q; rule = a.rule; session = Fresh } in
           let is : means q ≡ piled s (puts.0 ∷ []) [] = puts.2 in
           let bd : Bounded s.problem s.base = λ x v k. (subst (λ (n : ℕ). x < n) ready.variables (within x v k).0, (within x v k).1) in
           let enter : Enters s (means q) (Ok tt) = subst (λ (p : List Node). enters s p (means q) (Ok tt)) (sym e) (ready, room, puts) in

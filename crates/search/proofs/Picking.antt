@@ -7,22 +7,18 @@ use Rattle.tree.specs.Filter.{Node, failed, table}
 use Rattle.tree.specs.Search.{Rule}
 use Rattle.tree.specs.Domains.{size, least, greatest}
 use Rattle.tree.specs.Find.{is_full}
-use Rattle.tree.specs.Rules.{paired, first, small}
+use Rattle.tree.specs.Rules.{paired}
 use Rattle.tree.proofs.Domains.{size-one, least-bottom, greatest-top}
 use Rattle.tables.specs.States.{Within}
 use Rattle.spaces.specs.Pile.{SpaceState, Laws, Standing}
 use Rattle.spaces.specs.Calls.{of_top, Lowest as Bottom, Highest as Top}
 use Rattle.spaces.specs.declared.space.SpaceFault.{SpaceFault}
-use Rattle.search.specs.Choosing.{at_top, chosen, among, best_of, open_on, Prefers}
+use Rattle.search.specs.Choosing.{at_top, chosen, rule, among, best_of, open_on, Prefers, Tried}
 use Rattle.search.specs.declared.rule.Preference.{Preference}
 use Rattle.search.specs.declared.rule.Preference.TheVariants.{Lowest, Smallest}
 use Rattle.search.proofs.Preferring.{top_within}
 
--- the rule of a preference, and the value that it tries first: the least with the lowest variable, the greatest with the smallest
-abbrev rule : Preference → ℕ → ℕ → Rule
-rule Lowest = first
-rule Smallest = small
-
+-- the value that is tried first: the least with the lowest variable, the greatest with the smallest
 abbrev value : Preference → ℕ → Table → ℕ → ℕ
 value Lowest w T x = least (T x) 0 w
 value Smallest w T x = greatest (T x) w
@@ -35,8 +31,12 @@ abbrev Ends : Preference → ℕ → ℕ → Table → Result (Option ℕ) Space
 Ends Lowest = Bottom
 Ends Smallest = Top
 
-abbrev pub Asked : SpaceState → Preference → ℕ → Result (Option ℕ) SpaceFault → Type 0
+abbrev Asked : SpaceState → Preference → ℕ → Result (Option ℕ) SpaceFault → Type 0
 Asked s p x r = of_top s.base s.pile (Ends p s.variables x) r
+
+asked : (s : SpaceState) (p : Preference) (x : ℕ) (r : Result (Option ℕ) SpaceFault) → Tried s p x r → Asked s p x r
+asked s Lowest x r h = h
+asked s Smallest x r h = h
 
 pair_cond : (b : Bool) (f : ℕ → ℕ) (o : Option ℕ) → cond b (paired f o) None ≡ paired f (cond b o None)
 pair_cond true f o = refl
@@ -106,11 +106,11 @@ module _ (s : SpaceState) (p : Preference) where
     not_fault_on (failed ∷ q) e st h r = some-none x h.1
     not_fault_on (table T ∷ q) e st h r = fault s.variables w T (top_within s laws T q st) p x e h.1 r
 
-    pub chose : (v : ℕ) → Prefers s p (Some x) → Asked s p x (Ok (Some v)) → Some (x, v) ≡ chosen s (rule p)
-    chose v h r = some_on s.pile v laws.standing h r
+    pub chose : (v : ℕ) → Prefers s p (Some x) → Tried s p x (Ok (Some v)) → Some (x, v) ≡ chosen s (rule p)
+    chose v h r = some_on s.pile v laws.standing h (asked s p x (Ok (Some v)) r)
 
-    pub never_none : Prefers s p (Some x) → Asked s p x (Ok None) → ⊥
-    never_none h r = not_none_on s.pile laws.standing h r
+    pub never_none : Prefers s p (Some x) → Tried s p x (Ok None) → ⊥
+    never_none h r = not_none_on s.pile laws.standing h (asked s p x (Ok None) r)
 
-    pub never_fault : (e : SpaceFault) → Prefers s p (Some x) → Asked s p x (Err e) → ⊥
-    never_fault e h r = not_fault_on s.pile e laws.standing h r
+    pub never_fault : (e : SpaceFault) → Prefers s p (Some x) → Tried s p x (Err e) → ⊥
+    never_fault e h r = not_fault_on s.pile e laws.standing h (asked s p x (Err e) r)

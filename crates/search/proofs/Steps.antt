@@ -17,8 +17,9 @@ use Rattle.spaces.proofs.Opens.{has_open_to, has_open_none}
 use Rattle.spaces.proofs.Stand.{takes-fewer}
 use Rattle.search.specs.Choosing.{at_top, ruling}
 use Rattle.search.specs.Remaining.{rights, later, remaining, Made, Sitting}
-use Rattle.search.specs.Sessions.{state_of, view, rest, Sound, Visits, Steps, none_left}
+use Rattle.search.specs.Sessions.{has_session, has_unvisited, state_of, view, rest, Sound, Visits, Steps, none_left}
 use Rattle.search.specs.declared.search.Search.{Search}
+use Rattle.search.specs.declared.search.Session.TheVariants.{Visited}
 use Rattle.search.proofs.Moves.{took, turned}
 
 never : (c : ℕ × ℕ) → ◌≡◌ {A = Option (ℕ × ℕ)} None (Some c) → ⊥
@@ -105,7 +106,7 @@ module _ (P : Problem) (R : Rule) (laws : Lawful P) (picks : Picks P R) where
 
 -- as the search sees it
 
-module _ {S Q : Type 0} (means : S → SpaceState) (sound : S → Type 0) (rules : Q → ℕ → ℕ → Rule) (a : Search S Q) (open_session : a.session ≡ true) (o : Sound means sound rules a) where
+module _ {S Q : Type 0} (means : S → SpaceState) (sound : S → Type 0) (rules : Q → ℕ → ℕ → Rule) (a : Search S Q) (open_session : has_session a.session ≡ true) (o : Sound means sound rules a) where
   pub way : Sitting (means a.space).problem (ruling (means a.space) (rules a.rule)) true (means a.space).pile (means a.space).choices
   way = subst (λ (b : Bool). Sitting (means a.space).problem (ruling (means a.space) (rules a.rule)) b (means a.space).pile (means a.space).choices) open_session o.sits.way
 
@@ -118,11 +119,11 @@ module _ {S Q : Type 0} (means : S → SpaceState) (sound : S → Type 0) (rules
         h ∙ ap (state s.problem.variables s.problem.width) e ∙ state-is s.problem R laws picks N q (subst (λ (p : List Node). Sitting s.problem R true p s.choices) e way).0
 
     -- the first visit is of the top
-    pub first_step : (st : State) → a.fresh ≡ true → st ≡ state (means a.space).problem.variables (means a.space).problem.width (means a.space).pile →
-        Steps (view means rules a) (Ok (Some st)) (view means rules (record { space = a.space; rule = a.rule; session = a.session; fresh = false })) × Sound means sound rules (record { space = a.space; rule = a.rule; session = a.session; fresh = false })
+    pub first_step : (st : State) → has_unvisited a.session ≡ true → st ≡ state (means a.space).problem.variables (means a.space).problem.width (means a.space).pile →
+        Steps (view means rules a) (Ok (Some st)) (view means rules (record { space = a.space; rule = a.rule; session = Visited })) × Sound means sound rules (record { space = a.space; rule = a.rule; session = Visited })
     first_step st f h = go (means a.space).pile refl
       where
-        go : (p : List Node) → (means a.space).pile ≡ p → Steps (view means rules a) (Ok (Some st)) (view means rules (record { space = a.space; rule = a.rule; session = a.session; fresh = false })) × Sound means sound rules (record { space = a.space; rule = a.rule; session = a.session; fresh = false })
+        go : (p : List Node) → (means a.space).pile ≡ p → Steps (view means rules a) (Ok (Some st)) (view means rules (record { space = a.space; rule = a.rule; session = Visited })) × Sound means sound rules (record { space = a.space; rule = a.rule; session = Visited })
         go [] e = absurd (subst (λ (p : List Node). Sitting (means a.space).problem (ruling (means a.space) (rules a.rule)) true p (means a.space).choices) e way)
         go (N ∷ q) e =
             let s = means a.space in
@@ -130,20 +131,20 @@ module _ {S Q : Type 0} (means : S → SpaceState) (sound : S → Type 0) (rules
             let V : Bool → List Node → Type 0 = λ b p. Visits s.problem R (remaining s.problem R b p s.choices) (Some st) (remaining s.problem R false p s.choices) p in (
               record {
                 visits = subst (λ (b : Bool). V b s.pile) (sym f) (subst (V true) (sym e) (top-state st h N q e, refl, (N, q, refl, refl)));
-                session = open_session;
+                session = refl;
                 space = refl;
                 rule = refl;
               },
-              record { part = o.part; sits = record { way = o.sits.way; deep = o.sits.deep; ready = o.sits.ready } },
+              record { part = o.part; sits = record { way = way; deep = λ k. o.sits.deep open_session; ready = λ k. o.sits.ready open_session } },
             )
 
     -- a later one is of the node that a take or a turn leads to
-    pub later-step : (q : S) (b : Search S Q) (st : State) → b ≡ record { space = q; rule = a.rule; session = a.session; fresh = a.fresh } → a.fresh ≡ false → sound q → Moved (means a.space).problem (ruling (means a.space) (rules a.rule)) laws picks (means a.space) (means a.space).pile (means a.space).choices (means q) → (sound b.space → st ≡ state (means b.space).problem.variables (means b.space).problem.width (means b.space).pile) →
+    pub later-step : (q : S) (b : Search S Q) (st : State) → b ≡ record { space = q; rule = a.rule; session = a.session } → has_unvisited a.session ≡ false → sound q → Moved (means a.space).problem (ruling (means a.space) (rules a.rule)) laws picks (means a.space) (means a.space).pile (means a.space).choices (means q) → (sound b.space → st ≡ state (means b.space).problem.variables (means b.space).problem.width (means b.space).pile) →
         Steps (view means rules a) (Ok (Some st)) (view means rules b) × Sound means sound rules b
     later-step q b st is f oq m shown =
         let s = means a.space in
         let R = ruling s (rules a.rule) in
-        let c : Search S Q = record { space = q; rule = a.rule; session = a.session; fresh = a.fresh } in
+        let c : Search S Q = record { space = q; rule = a.rule; session = a.session } in
         let same : ruling (means q) (rules a.rule) ≡ R = ap (λ (x : SpaceState). ruling x (rules a.rule)) m.space in
         let prob : (means q).problem ≡ s.problem = ap (λ (x : SpaceState). x.problem) m.space in
         let h : st ≡ state (means q).problem.variables (means q).problem.width (means q).pile = subst (λ (x : Search S Q). sound x.space → st ≡ state (means x.space).problem.variables (means x.space).problem.width (means x.space).pile) is shown oq in
@@ -170,7 +171,7 @@ module _ {S Q : Type 0} (means : S → SpaceState) (sound : S → Type 0) (rules
         )
 
     -- none is left
-    pub no_step : (st : State) → a.fresh ≡ false → st ≡ state (means a.space).problem.variables (means a.space).problem.width (means a.space).pile → (st ≡ Now-open → ⊥) → length (means a.space).pile ≤ 1 → rest (view means rules a) ≡ []
+    pub no_step : (st : State) → has_unvisited a.session ≡ false → st ≡ state (means a.space).problem.variables (means a.space).problem.width (means a.space).pile → (st ≡ Now-open → ⊥) → length (means a.space).pile ≤ 1 → rest (view means rules a) ≡ []
     no_step st f h closed l =
         let s = means a.space in
         let R = ruling s (rules a.rule) in
@@ -200,7 +201,7 @@ module _ {S Q : Type 0} (means : S → SpaceState) (sound : S → Type 0) (rules
     some-nodes (plan p) vs = refl
     some-nodes (fork T x v l r) vs = refl
 
-    pub open_left : a.fresh ≡ false → Now-open ≡ state (means a.space).problem.variables (means a.space).problem.width (means a.space).pile → none_left (rest (view means rules a)) ≡ false
+    pub open_left : has_unvisited a.session ≡ false → Now-open ≡ state (means a.space).problem.variables (means a.space).problem.width (means a.space).pile → none_left (rest (view means rules a)) ≡ false
     open_left f h = ap (λ (b : Bool). none_left (remaining (means a.space).problem (ruling (means a.space) (rules a.rule)) b (means a.space).pile (means a.space).choices)) f ∙ go (means a.space).pile refl
       where
         fork_left : (T : Table) (q : List Node) (o : Option (ℕ × ℕ)) → Now-open ≡ state_of (found (means a.space).problem T o) → none_left (parts (means a.space).problem (ruling (means a.space) (rules a.rule)) T o ++ rights (means a.space).problem (ruling (means a.space) (rules a.rule)) q (means a.space).choices) ≡ false
@@ -215,7 +216,7 @@ module _ {S Q : Type 0} (means : S → SpaceState) (sound : S → Type 0) (rules
         go (failed ∷ q) i = let k : Now-open ≡ Now-failed = top-state Now-open h failed q i in absurd (let z : ◌≡◌ {A = ℕ} 0 1 = cc in omega arith)
         go (table T ∷ q) i = fork_left T q (ruling (means a.space) (rules a.rule) T) (top-state Now-open h (table T) q i)
 
-    pub closed_left : (st : State) → a.fresh ≡ false → st ≡ state (means a.space).problem.variables (means a.space).problem.width (means a.space).pile → (st ≡ Now-open → ⊥) → leb (length (means a.space).pile) 1 ≡ none_left (rest (view means rules a))
+    pub closed_left : (st : State) → has_unvisited a.session ≡ false → st ≡ state (means a.space).problem.variables (means a.space).problem.width (means a.space).pile → (st ≡ Now-open → ⊥) → leb (length (means a.space).pile) 1 ≡ none_left (rest (view means rules a))
     closed_left st f h closed = go (means a.space).pile (means a.space).choices refl refl ∙ sym (ap (λ (b : Bool). none_left (remaining (means a.space).problem (ruling (means a.space) (rules a.rule)) b (means a.space).pile (means a.space).choices)) f)
       where
         sitting : (p : List Node) (cs : List (ℕ × ℕ)) → (means a.space).pile ≡ p → (means a.space).choices ≡ cs → Sitting (means a.space).problem (ruling (means a.space) (rules a.rule)) true p cs

@@ -1,12 +1,14 @@
 -- What a rule answers at a space. Assumes nothing.
-use Rattle.std.specs.Prelude.{◌≡◌, ℕ, ◌<◌, Bool, true, false, cond, List, [], ◌∷◌, Some, None, Option, ◌==◌, nat_lt}
+use Rattle.std.specs.Prelude.{◌≡◌, ℕ, ◌<◌, Bool, true, false, cond, List, [], ◌∷◌, Some, None, Option, Result, ◌==◌, nat_lt}
 use Rattle.tree.specs.Tables.{Table}
 use Rattle.tree.specs.Filter.{Node, failed, table}
 use Rattle.tree.specs.Search.{Rule}
 use Rattle.tree.specs.Domains.{size}
 use Rattle.tree.specs.Find.{is_full}
-use Rattle.tree.specs.Rules.{lowest, smallest}
+use Rattle.tree.specs.Rules.{lowest, smallest, first, small}
 use Rattle.spaces.specs.Pile.{SpaceState}
+use Rattle.spaces.specs.Calls.{Leasts, Greatests}
+use Rattle.spaces.specs.declared.space.SpaceFault.{SpaceFault}
 use Rattle.search.specs.declared.rule.Preference.{Preference}
 use Rattle.search.specs.declared.rule.Preference.TheVariants.{Lowest, Smallest}
 
@@ -27,6 +29,16 @@ chosen s picks = at_top (ruling s picks) s.base s.pile
 abbrev pub among : Preference → ℕ → Table → ℕ → ℕ → Option ℕ
 among Lowest = lowest
 among Smallest = smallest
+
+-- The rule of a preference.
+abbrev pub rule : Preference → ℕ → ℕ → Rule
+rule Lowest = first
+rule Smallest = small
+
+-- The end of a domain that is tried first: the least value with the lowest variable, the greatest with the smallest.
+abbrev pub Tried : SpaceState → Preference → ℕ → Result (Option ℕ) SpaceFault → Type 0
+Tried s Lowest x r = Leasts s x r
+Tried s Smallest x r = Greatests s x r
 
 -- The preferred open variable of n, none where a domain is empty.
 abbrev pub best_of : Preference → ℕ → ℕ → Table → Option ℕ

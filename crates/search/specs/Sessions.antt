@@ -13,6 +13,8 @@ use Rattle.spaces.specs.declared.space.State.TheVariants.{Open, Plan, Failed}
 use Rattle.search.specs.Choosing.{ruling}
 use Rattle.search.specs.Remaining.{remaining, Sitting}
 use Rattle.search.specs.declared.search.Search.{Search}
+use Rattle.search.specs.declared.search.Session.{Session}
+use Rattle.search.specs.declared.search.Session.TheVariants.{Closed, Fresh, Visited}
 use Rattle.search.specs.declared.search.Ticket.{Ticket}
 use Rattle.search.specs.declared.search.Answer.{Answer}
 use Rattle.search.specs.declared.search.Answer.TheVariants.{Plan as A-plan, Done, Spent}
@@ -39,6 +41,17 @@ place (Space f) = space-place f
 abbrev pub Says : SearchFault → ℕ → ℕ → Type 0
 Says e n p = (number e ≡ n) × (place e ≡ p)
 
+-- Whether a session is open, and whether its top is still to visit.
+abbrev pub has_session : Session → Bool
+has_session Closed = false
+has_session Fresh = true
+has_session Visited = true
+
+abbrev pub has_unvisited : Session → Bool
+has_unvisited Closed = false
+has_unvisited Fresh = true
+has_unvisited Visited = false
+
 -- What a search means: whether a session is open, whether the top is still to visit, the space, and the rule for its variables.
 pub record SearchState : Type 0 where
   pub session : Bool
@@ -47,11 +60,11 @@ pub record SearchState : Type 0 where
   pub rule : Rule
 
 abbrev pub view : {P R : Type 0} → (P → SpaceState) → (R → ℕ → ℕ → Rule) → Search P R → SearchState
-view means picks s = record { session = s.session; fresh = s.fresh; space = means s.space; rule = ruling (means s.space) (picks s.rule) }
+view means picks s = record { session = has_session s.session; fresh = has_unvisited s.session; space = means s.space; rule = ruling (means s.space) (picks s.rule) }
 
 -- The space and the rule where no session is open, and the search itself where one is.
 abbrev pub parts : {P R : Type 0} → Search P R → Result (P × R) (Search P R)
-parts s = cond s.session (Err s) (Ok (s.space, s.rule))
+parts s = cond (has_session s.session) (Err s) (Ok (s.space, s.rule))
 
 -- The number of variables, and the nodes that are still to visit.
 abbrev pub variables : SearchState → ℕ
@@ -93,7 +106,7 @@ module _ {S : Type 0} (view : S → SearchState) where
   -- close
 
   abbrev pub Closes : S → Result (Unit {0}) SearchFault → S → Type 0
-  Closes a (Ok u) b = ((view a).session ≡ true) × (view b ≡ record { session = false; fresh = (view a).fresh; space = piled (view a).space [] []; rule = (view a).rule })
+  Closes a (Ok u) b = ((view a).session ≡ true) × (view b ≡ record { session = false; fresh = false; space = piled (view a).space [] []; rule = (view a).rule })
   Closes a (Err e) b = (b ≡ a) × ((view a).session ≡ false) × Says e 43 0
 
 -- next

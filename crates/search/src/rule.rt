@@ -2,10 +2,10 @@ ghost use Rattle.std.specs.Prelude.{◌≡◌, ℕ};
 ghost use Rattle.tree.specs.Filter.{Problem};
 ghost use Rattle.tree.specs.Search.{Rule as Answering, Picks};
 ghost use Rattle.tree.specs.Rules.{first, small};
-ghost use Rattle.search.specs.Choosing.{chosen, replaces, settles, Prefers};
+ghost use Rattle.search.specs.Choosing.{chosen, rule, replaces, settles, Prefers, Tried};
 ghost use Rattle.search.specs.Lawful.{first-lawful, small-lawful};
 
-use spaces::space::Space;
+use spaces::space::{Space, SpaceFault};
 
 // A branching rule: at an open node, the variable that is decided next and the value that is tried first.
 pub trait Rule {
@@ -49,6 +49,16 @@ impl Preference {
         }
     }
 
+    // The value of an open variable that is tried first: the least of the lowest, the greatest of the smallest.
+    fn tried<P: Space>(&self, space: &P, x: usize) -> Result<Option<u8>, SpaceFault>
+        ensures { P.Space.sound space.now → Tried (P.Space.means space.now) self.now x result }
+    {
+        match self {
+            Preference::Lowest => space.least(x),
+            Preference::Smallest => space.greatest(x),
+        }
+    }
+
     // Whether no later variable is preferred to an open one of this size. In a run no domain is empty; without one a later domain
     // may be, and then there is no answer.
     fn settles(&self, run: bool, size: u32) -> bool
@@ -84,10 +94,20 @@ fn preferred<P: Space>(space: &P, preference: Preference) -> Option<usize>
             }
         }
     }
-    let Some((x, _)) = best else {
-        return None;
-    };
+    let (x, _) = best?;
     Some(x)
+}
+
+// The preferred open variable and the value that is tried first.
+fn decided<P: Space>(space: &P, preference: Preference) -> Option<(usize, u8)>
+    ensures { P.Space.sound space.now → result ≡ chosen (P.Space.means space.now) (rule preference) }
+{
+    let x = preferred(space, preference)?;
+    match preference.tried(space, x) {
+        Ok(Some(v)) => Some((x, v)),
+        Ok(None) => None,
+        Err(_) => None,
+    }
 }
 
 impl Rule for First {
@@ -96,16 +116,7 @@ impl Rule for First {
     ghost lawful = { first-lawful };
 
     fn pick<P: Space>(&self, space: &P) -> Option<(usize, u8)> {
-        let Some(x) = preferred(space, Preference::Lowest) else {
-            return None;
-        };
-        let Ok(least) = space.least(x) else {
-            return None;
-        };
-        let Some(v) = least else {
-            return None;
-        };
-        Some((x, v))
+        decided(space, Preference::Lowest)
     }
 }
 
@@ -115,15 +126,6 @@ impl Rule for Small {
     ghost lawful = { small-lawful };
 
     fn pick<P: Space>(&self, space: &P) -> Option<(usize, u8)> {
-        let Some(x) = preferred(space, Preference::Smallest) else {
-            return None;
-        };
-        let Ok(greatest) = space.greatest(x) else {
-            return None;
-        };
-        let Some(v) = greatest else {
-            return None;
-        };
-        Some((x, v))
+        decided(space, Preference::Smallest)
     }
 }

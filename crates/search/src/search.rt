@@ -1,10 +1,12 @@
 ghost use Rattle.std.specs.Prelude.{◌≡◌, true, false, List};
 ghost use Rattle.stores.specs.Rows.{Keeps};
-ghost use Rattle.search.specs.Sessions.{number, place, parts, view, rest, Sound, Begins, Closes, Nexts, Steps, none_left, Copied};
+ghost use Rattle.search.specs.Sessions.{number, place, has_session, has_unvisited, parts, view, rest, Sound, Begins, Closes, Nexts, Steps, none_left, Copied};
 ghost use Rattle.search.specs.Runs.{Event, Runs, Law};
+ghost use Rattle.search.specs.declared.search.Session.TheVariants.{Closed};
 ghost use Rattle.search.specs.declared.search.SearchFault.TheVariants.{Space as FromSpace};
 
 use crate::rule::Rule;
+use faults::Fault;
 use spaces::space::{Space, SpaceFault, State};
 
 // Handed out by an accepted begin, and taken back by close. It is not Drop, so a program that forgets it does not compile.
@@ -45,21 +47,45 @@ impl From<SpaceFault> for SearchFault {
     }
 }
 
+// Where a search stands.
+#[derive(Clone, Copy)]
+enum Session {
+    // No session is open.
+    Closed,
+    // A session is open, and the top of the space is not visited yet.
+    Fresh,
+    // A session is open, and the top of the space was visited.
+    Visited,
+}
+
+impl Session {
+    fn is_open(self) -> bool
+        ensures { result ≡ has_session self }
+    {
+        !matches!(self, Session::Closed)
+    }
+
+    fn is_fresh(self) -> bool
+        ensures { result ≡ has_unvisited self }
+    {
+        matches!(self, Session::Fresh)
+    }
+}
+
 // A search over a space by a rule.
 #[derive(Drop)]
 pub struct Search<P: Space, R: Rule> {
     space: P,
     rule: R,
-    session: bool,
-    // whether the top of the space is not visited yet
-    fresh: bool,
+    session: Session,
 }
 
-impl SearchFault {
-    // The published number of the fault.
-    pub fn number(&self) -> u8
-        ensures { result ≡ number self.now }
-    {
+impl Fault for SearchFault {
+    ghost number = { number };
+
+    ghost place = { place };
+
+    fn number(&self) -> u8 {
         match self {
             SearchFault::Busy => 42,
             SearchFault::Shallow(_) => 41,
@@ -70,16 +96,11 @@ impl SearchFault {
         }
     }
 
-    // The published place of the fault.
-    pub fn place(&self) -> usize
-        ensures { result ≡ place self.now }
-    {
+    fn place(&self) -> usize {
         match self {
-            SearchFault::Busy => 0,
             SearchFault::Shallow(depth) => *depth,
-            SearchFault::Idle => 0,
             SearchFault::Row(length) => *length,
-            SearchFault::Budget => 0,
+            SearchFault::Busy | SearchFault::Idle | SearchFault::Budget => 0,
             SearchFault::Space(fault) => fault.place(),
         }
     }
@@ -88,15 +109,14 @@ impl SearchFault {
 impl<P: Space, R: Rule> Search<P, R> {
     // No session is open. Whatever calls come after, the law of runs holds of them.
     pub fn open(space: P, rule: R) -> Search<P, R>
-        ensures opened { result ≡ record { space = space; rule = rule; session = false; fresh = false } }
+        ensures opened { result ≡ record { space = space; rule = rule; session = Closed } }
         ensures sound { P.Space.sound space → Sound P.Space.means P.Space.sound R.Rule.picks result }
         ensures law { P.Space.sound space → (es : List Event) (b : Search P R) → Runs (view P.Space.means R.Rule.picks) (Sound P.Space.means P.Space.sound R.Rule.picks) result es b → Law (view P.Space.means R.Rule.picks) result es b }
     {
         Search {
             space,
             rule,
-            session: false,
-            fresh: false,
+            session: Session::Closed,
         }
     }
 
@@ -111,15 +131,14 @@ impl<P: Space, R: Rule> Search<P, R> {
     pub fn apart(self) -> Result<(P, R), Search<P, R>>
         ensures { result ≡ parts self }
     {
-        let needed = self.session;
-        if needed {
+        let open = self.session.is_open();
+        if open {
             return Err(self);
         }
         let Search {
             space,
             rule,
             session: _,
-            fresh: _,
         } = self;
         Ok((space, rule))
     }
@@ -128,7 +147,7 @@ impl<P: Space, R: Rule> Search<P, R> {
     pub fn begin(&mut self) -> Result<Ticket, SearchFault>
         ensures { Keeps (Sound P.Space.means P.Space.sound R.Rule.picks) self.old self.new (Begins (view P.Space.means R.Rule.picks) self.old result self.new) }
     {
-        if self.session {
+        if self.session.is_open() {
             return Err(SearchFault::Busy);
         }
         let depth = self.space.depth();
@@ -136,8 +155,7 @@ impl<P: Space, R: Rule> Search<P, R> {
             return Err(SearchFault::Shallow(depth));
         }
         self.space.enter()?;
-        self.session = true;
-        self.fresh = true;
+        self.session = Session::Fresh;
         Ok(Ticket { mark: () })
     }
 
@@ -146,20 +164,20 @@ impl<P: Space, R: Rule> Search<P, R> {
         ensures { Keeps (Sound P.Space.means P.Space.sound R.Rule.picks) self.old self.new (Closes (view P.Space.means R.Rule.picks) self.old result self.new) }
     {
         let Ticket { mark: _ } = ticket;
-        if !self.session {
+        if !self.session.is_open() {
             return Err(SearchFault::Idle);
         }
         self.space.leave()?;
-        self.session = false;
+        self.session = Session::Closed;
         Ok(())
     }
 
     // Goes on to the next node and says what it is, or none where none is left.
     fn step(&mut self) -> Result<Option<State>, SearchFault>
-        ensures { self.old.session ≡ true → Keeps (Sound P.Space.means P.Space.sound R.Rule.picks) self.old self.new (Steps (view P.Space.means R.Rule.picks self.old) result (view P.Space.means R.Rule.picks self.new)) }
+        ensures { has_session self.old.session ≡ true → Keeps (Sound P.Space.means P.Space.sound R.Rule.picks) self.old self.new (Steps (view P.Space.means R.Rule.picks self.old) result (view P.Space.means R.Rule.picks self.new)) }
     {
-        if self.fresh {
-            self.fresh = false;
+        if self.session.is_fresh() {
+            self.session = Session::Visited;
             return Ok(Some(self.space.state()));
         }
         match self.rule.pick(&self.space) {
@@ -176,9 +194,9 @@ impl<P: Space, R: Rule> Search<P, R> {
 
     // Whether no node is left.
     fn ends(&self) -> bool
-        ensures { Sound P.Space.means P.Space.sound R.Rule.picks self.now → self.now.session ≡ true → result ≡ none_left (rest (view P.Space.means R.Rule.picks self.now)) }
+        ensures { Sound P.Space.means P.Space.sound R.Rule.picks self.now → has_session self.now.session ≡ true → result ≡ none_left (rest (view P.Space.means R.Rule.picks self.now)) }
     {
-        if self.fresh {
+        if self.session.is_fresh() {
             return false;
         }
         match self.space.state() {
@@ -209,7 +227,7 @@ impl<P: Space, R: Rule> Search<P, R> {
     pub fn next(&mut self, budget: u64, row: &mut [u8]) -> Result<Answer, SearchFault>
         ensures { Keeps (Sound P.Space.means P.Space.sound R.Rule.picks) self.old self.new (Nexts (view P.Space.means R.Rule.picks) self.old budget row.old result self.new row.new) }
     {
-        if !self.session {
+        if !self.session.is_open() {
             return Err(SearchFault::Idle);
         }
         let length = row.len();
@@ -219,23 +237,19 @@ impl<P: Space, R: Rule> Search<P, R> {
         if budget == 0 {
             return Err(SearchFault::Budget);
         }
-        let mut count = 0;
-        while count < budget {
+        for count in 0..budget {
             let Some(state) = self.step()? else {
                 return Ok(Answer::Done(count));
             };
-            match state {
-                State::Plan => {
-                    self.copy(row);
-                    return Ok(Answer::Plan(count + 1));
-                }
-                _ => count += 1,
+            if let State::Plan = state {
+                self.copy(row);
+                return Ok(Answer::Plan(count + 1));
             }
         }
         if self.ends() {
-            Ok(Answer::Done(count))
+            Ok(Answer::Done(budget))
         } else {
-            Ok(Answer::Spent(count))
+            Ok(Answer::Spent(budget))
         }
     }
 }

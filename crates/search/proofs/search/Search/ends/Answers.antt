@@ -6,10 +6,10 @@ pub returns-in-Open : goal.returns-in-Open
 returns-in-Open g c = λ o se.
     let s = c.args.self.now in
     let means = g.P.Space.means in
-    sym (open_left means g.P.Space.sound g.R.Rule.picks s se o (g.P.Space.laws s.space o.part).lawful (g.R.Rule.lawful s.rule (means s.space).problem) c.if-self.false (c.in-Open.ensures o.part))
+    sym (open_left means g.P.Space.sound g.R.Rule.picks s se o (g.P.Space.laws s.space o.part).lawful (g.R.Rule.lawful s.rule (means s.space).problem) (sym c.is_fresh.ensures ∙ c.if-is_fresh.false) (c.in-Open.ensures o.part))
 
 pub returns-in_default : goal.returns-in_default
 returns-in_default g c = λ o se.
     let s = c.args.self.now in
     let means = g.P.Space.means in
-    ap (λ (n : ℕ). leb n 1) (c.nodes.ensures o.part) ∙ closed_left means g.P.Space.sound g.R.Rule.picks s se o (g.P.Space.laws s.space o.part).lawful (g.R.Rule.lawful s.rule (means s.space).problem) c.state.result c.if-self.false (c.state.ensures o.part) c.in_default.not-Open
+    ap (λ (n : ℕ). leb n 1) (c.nodes.ensures o.part) ∙ closed_left means g.P.Space.sound g.R.Rule.picks s se o (g.P.Space.laws s.space o.part).lawful (g.R.Rule.lawful s.rule (means s.space).problem) c.state.result (sym c.is_fresh.ensures ∙ c.if-is_fresh.false) (c.state.ensures o.part) c.in_default.not-Open

@@ -7,7 +7,7 @@ use Rattle.search.specs.Remaining.{Sitting}
 use Rattle.search.specs.Sessions.{SearchState, view, rest, Steps, Stepped, Went}
 use Rattle.search.specs.declared.search.Answer.TheVariants.{Done, Spent}
 use Rattle.search.specs.declared.search.SearchFault.{SearchFault}
-use Rattle.search.proofs.Scans.{start, on, went_done, went_plan, went_over_done, went_over_spent, plan_on_top, PlanVisited}
+use Rattle.search.proofs.Scans.{Mid, start, on, went_done, went_plan, went_over_done, went_over_spent, plan_on_top, PlanVisited}
 use Rattle.search.proofs.Steps.{way}
 use Rattle.search.proofs.search.Search.next.Goals as goal
 
@@ -15,32 +15,32 @@ stepped_at : (s t : SearchState) (r : Result (Option State) SearchFault) (o q : 
 stepped_at s t r o q h e f = subst (λ (x : Result (Option State) SearchFault). Steps s x t) (e ∙ ap Ok f) h
 
 pub loop-count-init : goal.loop-count-init
-loop-count-init g c = (omega arith, refl, λ o se. (start (view g.P.Space.means g.R.Rule.picks c.args.self.now) c.args.budget se, o))
+loop-count-init g c = (refl, λ o se. (start (view g.P.Space.means g.R.Rule.picks c.args.self.now) c.args.budget se, o))
 
 pub returns-in_default : goal.returns-in_default
 returns-in_default g c = λ o.
     let means = g.P.Space.means in
     let picks = g.R.Rule.picks in
-    let se = c.if-not-self.false in
-    let mid = c.loop-count.invariant.2 o se in
+    let se = sym c.is_open.ensures ∙ c.if-not-is_open.false in
+    let mid = c.loop-count.invariant.1 o se in
     let did = c.step.ensures mid.0.session mid.1 in
     let h = stepped_at (view means picks c.loop-count.self) (view means picks c.step.new.self) c.step.result c.in_ok-state.field-0 None did.0 c.in_ok-state.was c.in_default.is in
     let w = went_done (view means picks c.args.self.now) c.args.budget c.loop-count.count (view means picks c.loop-count.self) mid.0 c.args.row.now se (omega (arith, c.if-length-variables.false, c.variables.ensures o.part)) (omega (arith, c.if-budget-eq0.false)) (view means picks c.step.new.self) h in
-    (subst (λ (new : List ℕ). Went (view means picks c.args.self.now) c.args.budget c.args.row.now (Done c.loop-count.count) (view means picks c.step.new.self) new) (sym c.loop-count.invariant.1) w, did.1)
+    (subst (λ (new : List ℕ). Went (view means picks c.args.self.now) c.args.budget c.args.row.now (Done c.loop-count.count) (view means picks c.step.new.self) new) (sym c.loop-count.invariant.0) w, did.1)
 
 pub returns-in-Plan : goal.returns-in-Plan
 returns-in-Plan g c = λ o.
     let means = g.P.Space.means in
     let picks = g.R.Rule.picks in
     let sound = g.P.Space.sound in
-    let se = c.if-not-self.false in
-    let mid = c.loop-count.invariant.2 o se in
+    let se = sym c.is_open.ensures ∙ c.if-not-is_open.false in
+    let mid = c.loop-count.invariant.1 o se in
     let did = c.step.ensures mid.0.session mid.1 in
     let m = view means picks c.loop-count.self in
     let b = c.step.new.self in
     let t = view means picks b in
     let h = stepped_at m t c.step.result c.in_ok-state.field-0 _ did.0 c.in_ok-state.was (c.in-Some.is ∙ ap Some c.in-Plan.is) in
-    let row = c.loop-count.invariant.1 in
+    let row = c.loop-count.invariant.0 in
     let room : (means c.args.self.now.space).problem.variables ≤ length c.args.row.now = omega (arith, c.if-length-variables.false, c.variables.ensures o.part) in
     let copied : (v : PlanVisited m.space.problem m.rule (rest m) (rest t) t.space.pile (c.args.budget - (c.loop-count.count + 1))) → c.copy.new.row ≡ v.values ++ drop (length v.values) c.args.row.now = λ v.
     let prob : t.space.problem ≡ m.space.problem = ap (λ (x : SpaceState). x.problem) h.space in
@@ -53,12 +53,11 @@ returns-in-Plan g c = λ o.
 
 pub loop-count-preserved : goal.loop-count-preserved
 loop-count-preserved g c = (
-  omega arith,
-  c.loop-count.invariant.1,
+  c.loop-count.invariant.0,
   λ o se.
       let means = g.P.Space.means in
       let picks = g.R.Rule.picks in
-      let mid = c.loop-count.invariant.2 o se in
+      let mid = c.loop-count.invariant.1 o se in
       let did = c.step.ensures mid.0.session mid.1 in
       let m = view means picks c.loop-count.self in
       let t = view means picks c.step.new.self in
@@ -69,18 +68,20 @@ pub returns-then-ends : goal.returns-then-ends
 returns-then-ends g c = λ o.
     let means = g.P.Space.means in
     let picks = g.R.Rule.picks in
-    let se = c.if-not-self.false in
-    let mid = c.loop-count.invariant.2 o se in
+    let se = sym c.is_open.ensures ∙ c.if-not-is_open.false in
+    let mid = c.loop-count.invariant.1 o se in
     let m = view means picks c.loop-count.self in
-    let w = went_over_done (view means picks c.args.self.now) c.args.budget c.loop-count.count m mid.0 c.args.row.now se (omega (arith, c.if-length-variables.false, c.variables.ensures o.part)) (omega (arith, c.if-budget-eq0.false)) c.loop-count-test.false (sym (c.ends.ensures mid.1 mid.0.session) ∙ c.if-ends.true) in
-    (subst (λ (new : List ℕ). Went (view means picks c.args.self.now) c.args.budget c.args.row.now (Done c.loop-count.count) m new) (sym c.loop-count.invariant.1) w, mid.1)
+    let over : c.loop-count.count ≡ c.args.budget = omega (arith, c.loop-count-test.false, c.loop-count.auto.count-end) in
+    let w = went_over_done (view means picks c.args.self.now) c.args.budget c.args.budget m (subst (λ (k : ℕ). Mid (view means picks c.args.self.now) c.args.budget k m) over mid.0) c.args.row.now se (omega (arith, c.if-length-variables.false, c.variables.ensures o.part)) (omega (arith, c.if-budget-eq0.false)) (omega arith) (sym (c.ends.ensures mid.1 mid.0.session) ∙ c.if-ends.true) in
+    (subst (λ (new : List ℕ). Went (view means picks c.args.self.now) c.args.budget c.args.row.now (Done c.args.budget) m new) (sym c.loop-count.invariant.0) w, mid.1)
 
 pub returns-else-ends : goal.returns-else-ends
 returns-else-ends g c = λ o.
     let means = g.P.Space.means in
     let picks = g.R.Rule.picks in
-    let se = c.if-not-self.false in
-    let mid = c.loop-count.invariant.2 o se in
+    let se = sym c.is_open.ensures ∙ c.if-not-is_open.false in
+    let mid = c.loop-count.invariant.1 o se in
     let m = view means picks c.loop-count.self in
-    let w = went_over_spent (view means picks c.args.self.now) c.args.budget c.loop-count.count m mid.0 c.args.row.now se (omega (arith, c.if-length-variables.false, c.variables.ensures o.part)) (omega (arith, c.if-budget-eq0.false)) c.loop-count-test.false (sym (c.ends.ensures mid.1 mid.0.session) ∙ c.if-ends.false) in
-    (subst (λ (new : List ℕ). Went (view means picks c.args.self.now) c.args.budget c.args.row.now (Spent c.loop-count.count) m new) (sym c.loop-count.invariant.1) w, mid.1)
+    let over : c.loop-count.count ≡ c.args.budget = omega (arith, c.loop-count-test.false, c.loop-count.auto.count-end) in
+    let w = went_over_spent (view means picks c.args.self.now) c.args.budget c.args.budget m (subst (λ (k : ℕ). Mid (view means picks c.args.self.now) c.args.budget k m) over mid.0) c.args.row.now se (omega (arith, c.if-length-variables.false, c.variables.ensures o.part)) (omega (arith, c.if-budget-eq0.false)) (omega arith) (sym (c.ends.ensures mid.1 mid.0.session) ∙ c.if-ends.false) in
+    (subst (λ (new : List ℕ). Went (view means picks c.args.self.now) c.args.budget c.args.row.now (Spent c.args.budget) m new) (sym c.loop-count.invariant.0) w, mid.1)

@@ -1,5 +1,5 @@
 use Rattle.std.proofs.Common.{◌≡◌, ◌-◌, ◌≤◌, true}
-use Rattle.search.specs.Sessions.{Sound, view}
+use Rattle.search.specs.Sessions.{has_session, Sound, view}
 use Rattle.search.proofs.Scans.{Mid}
 use Rattle.search.proofs.search.Search.next.Given as goal
 
@@ -8,10 +8,6 @@ invariant-loop-count g l =
     let means = g.P.Space.means in
     let sound = g.P.Space.sound in
     let picks = g.R.Rule.picks in
-    (l.count ≤ l.budget) ×
     (l.row ≡ l.initial.row) ×
-    (Sound means sound picks l.initial.self → l.initial.self.session ≡ true →
+    (Sound means sound picks l.initial.self → has_session l.initial.self.session ≡ true →
     Mid (view means picks l.initial.self) l.budget l.count (view means picks l.self) × Sound means sound picks l.self)
-
-abbrev pub decreases-loop-count : goal.decreases-loop-count
-decreases-loop-count g l = l.budget - l.count

@@ -1,4 +1,4 @@
-use Rattle.std.proofs.Common.{◌≢◌, List, None, sym, refl, subst, arith}
+use Rattle.std.proofs.Common.{◌≢◌, List, None, sym, refl, ◌∙◌, subst, arith}
 use Rattle.tree.specs.Search.{Visit}
 use Rattle.spaces.specs.Calls.{state}
 use Rattle.spaces.specs.declared.space.State.TheVariants.{Open as Now-open}
@@ -8,11 +8,11 @@ use Rattle.search.proofs.Steps.{way, first_step, later-step, no_step, rule-answe
 use Rattle.search.proofs.search.Search.step.Goals as goal
 use Rattle.search.proofs.search.Search.step.Goals.{in-Some+in_ok-take-in-Some, in-None+else-nodes-le1+in_ok-turn-in-None}
 
-pub returns-then-self : goal.returns-then-self
-returns-then-self g c = λ se o.
+pub returns-then-is_fresh : goal.returns-then-is_fresh
+returns-then-is_fresh g c = λ se o.
     let s = c.args.self.now in
     let means = g.P.Space.means in
-    first_step means g.P.Space.sound g.R.Rule.picks s se o (g.P.Space.laws s.space o.part).lawful (g.R.Rule.lawful s.rule (means s.space).problem) c.state.result c.if-self.true (c.state.ensures o.part)
+    first_step means g.P.Space.sound g.R.Rule.picks s se o (g.P.Space.laws s.space o.part).lawful (g.R.Rule.lawful s.rule (means s.space).problem) c.state.result (sym c.is_fresh.ensures ∙ c.if-is_fresh.true) (c.state.ensures o.part)
 
 pub returns-in_err-take-in-Some : goal.returns-in_err-take-in-Some
 returns-in_err-take-in-Some g c = λ se o.
@@ -32,7 +32,7 @@ returns-then-nodes-le1 g c = λ se o.
     let laws = (g.P.Space.laws s.space o.part).lawful in
     let lawful = g.R.Rule.lawful s.rule m.problem in
     let closed : state m.problem.variables m.problem.width m.pile ≢ Now-open = λ k. rule-answers means g.P.Space.sound picks s se o laws lawful (sym k) (sym (c.in-None.ensures o.part)) in
-    let none = no_step means g.P.Space.sound picks s se o laws lawful _ c.if-self.false refl closed (omega (arith, c.nodes.ensures o.part, c.if-nodes-le1.true)) in
+    let none = no_step means g.P.Space.sound picks s se o laws lawful _ (sym c.is_fresh.ensures ∙ c.if-is_fresh.false) refl closed (omega (arith, c.nodes.ensures o.part, c.if-nodes-le1.true)) in
     let V : List Visit → Type 0 = λ q. Visits m.problem (ruling m (picks s.rule)) q None q m.pile in
     (record { visits = subst V (sym none) refl; session = se; space = refl; rule = refl }, o)
 
@@ -58,11 +58,11 @@ returns g c = λ se o.
     elim c.match-pick.branch [
       | in-Some+in_ok-take-in-Some w ↦
           let did = w.in_ok-take-in-Some.ensures.does o.part in
-          later-step means sound picks s se o laws lawful w.take.new.self _ _ w.self-is c.if-self.false did.1
+          later-step means sound picks s se o laws lawful w.take.new.self _ _ w.self-is (sym c.is_fresh.ensures ∙ c.if-is_fresh.false) did.1
           (take_moved m.problem (ruling m (picks s.rule)) laws lawful m (means w.take.new.self) refl m.pile w.in-Some.x w.in-Some.v _ here (sym (w.in-Some.ensures o.part)) did.0) c.state-2.ensures
       | in-None+else-nodes-le1+in_ok-turn-in-None w ↦
           let did = w.in_ok-turn-in-None.ensures.does o.part in
-          later-step means sound picks s se o laws lawful w.turn.new.self _ _ w.self-is c.if-self.false did.1
+          later-step means sound picks s se o laws lawful w.turn.new.self _ _ w.self-is (sym c.is_fresh.ensures ∙ c.if-is_fresh.false) did.1
           (turn_moved m.problem (ruling m (picks s.rule)) laws lawful m (means w.turn.new.self) refl m.pile m.choices _ here
           (unanswered means sound picks s se o laws lawful (sym (w.in-None.ensures o.part))) did.0) c.state-2.ensures
     ]
