@@ -1,6 +1,6 @@
 -- A plan is copied value by value.
-use Rattle.std.proofs.Common.{◌≡◌, ℕ, ◌+◌, ◌<◌, ◌≤◌, true, eqb, ltb, List, [], ◌∷◌, ◌++◌, length, get_or, take, drop, set, Some, None, Ok, Err, Option, Result, sym, refl, ap, ◌∙◌, subst, arith}
-use Rattle.std.proofs.lemmas.List.{append_assoc, length-take-le, take_more, take_all, drop_more, set_at}
+use Rattle.std.proofs.Common.{◌≡◌, ℕ, ◌+◌, ◌<◌, ◌≤◌, true, eqb, ltb, List, [], ◌∷◌, ◌++◌, length, get_or, take, drop, set, Some, None, Ok, Err, Option, Result, sym, refl, ap, ap₂, ◌∙◌, subst, arith}
+use Rattle.std.proofs.lemmas.List.{append_assoc, append-nil, length-take-le, take_more, take_all, drop_all, drop_more, set_at}
 use Rattle.std.proofs.lemmas.Bool.{and_parts, and_from, eqb-true, eq-eqb, lt-ltb, both_ways}
 use Rattle.tree.specs.Tables.{single}
 use Rattle.tree.specs.Filter.{Node, table}
@@ -10,7 +10,7 @@ use Rattle.spaces.specs.declared.space.SpaceFault.{SpaceFault}
 
 -- the first x values are copied
 unfoldable pub CopiedTo : SpaceState → List ℕ → ℕ → List ℕ → Type 0
-CopiedTo s old x new = (a : List ℕ) (below : List Node) → s.pile ≡ table (single a) ∷ below → length a ≡ s.problem.variables → s.variables ≡ s.problem.variables → length a ≤ length old → new ≡ take x a ++ drop x old
+CopiedTo s old x new = (a : List ℕ) (below : List Node) → s.pile ≡ table (single a) ∷ below → length a ≡ s.problem.variables → s.variables ≡ s.problem.variables → length old ≡ length a → new ≡ take x a ++ drop x old
 
 step : (a old : List ℕ) (x v : ℕ) → x < length a → length a ≤ length old → v ≡ get_or a x 0 → set (take x a ++ drop x old) x v ≡ take (x + 1) a ++ drop (x + 1) old
 step a old x v l h e =
@@ -33,23 +33,22 @@ plan_answer s x r a below e n l h = go r (subst (λ (p : List Node). of_top s.ba
     go (Ok None) k = absurd (both_ways _ (k.1 (get_or a x 0)) here)
     go (Err f) k = absurd (omega (arith, k.0, n, l))
 
-pub copied_more : (s : SpaceState) (old row : List ℕ) (x v : ℕ) → CopiedTo s old x row → x < s.problem.variables → Leasts s x (Ok (Some v)) → CopiedTo s old (x + 1) (set row x v)
+pub copied_more : (s : SpaceState) (old row : List ℕ) (x v : ℕ) → CopiedTo s old x row → x < length old → Leasts s x (Ok (Some v)) → CopiedTo s old (x + 1) (set row x v)
 unfolding CopiedTo
 copied_more s old row x v inv l h a below e n m room =
-    let q = plan_answer s x (Ok (Some v)) a below e (n ∙ sym m) (omega (arith, n)) h in
+    let q = plan_answer s x (Ok (Some v)) a below e (n ∙ sym m) (omega (arith, room)) h in
     let is : v ≡ get_or a x 0 = cc in
-    ap (λ (us : List ℕ). set us x v) (inv a below e n m room) ∙ step a old x v (omega (arith, n)) room is
+    ap (λ (us : List ℕ). set us x v) (inv a below e n m room) ∙ step a old x v (omega (arith, room)) (omega (arith, room)) is
 
 pub copied_none : (s : SpaceState) (old : List ℕ) → CopiedTo s old 0 old
 unfolding CopiedTo
 copied_none s old a below e n m room = refl
 
-pub copied_all : (s : SpaceState) (old row : List ℕ) (x : ℕ) → CopiedTo s old x row → x ≡ s.problem.variables → (a : List ℕ) (below : List Node) → s.pile ≡ table (single a) ∷ below → length a ≡ s.problem.variables → s.variables ≡ s.problem.variables → length a ≤ length old → row ≡ a ++ drop (length a) old
+pub copied_all : (s : SpaceState) (old row : List ℕ) (x : ℕ) → CopiedTo s old x row → x ≡ length old → (a : List ℕ) (below : List Node) → s.pile ≡ table (single a) ∷ below → length a ≡ s.problem.variables → s.variables ≡ s.problem.variables → length old ≡ length a → row ≡ a
 unfolding CopiedTo
 copied_all s old row x inv end a below e n m room =
-    let k : x ≡ length a = end ∙ sym n in
-    inv a below e n m room ∙ ap (λ (i : ℕ). take i a ++ drop i old) k ∙ ap (λ (us : List ℕ). us ++ drop (length a) old) (take_all (length a) a (omega arith))
+    inv a below e n m room ∙ ap₂ (λ (us vs : List ℕ). us ++ vs) (take_all x a (omega (arith, end, room))) (drop_all x old (omega (arith, end))) ∙ append-nil a
 
 -- nothing else is answered at a plan
-pub never_else : (s : SpaceState) (x : ℕ) (r : Result (Option ℕ) SpaceFault) (a : List ℕ) (below : List Node) → s.pile ≡ table (single a) ∷ below → length a ≡ s.problem.variables → s.variables ≡ s.problem.variables → x < s.problem.variables → Leasts s x r → ((v : ℕ) → r ≡ Ok (Some v) → ⊥) → ⊥
-never_else s x r a below e n m l h other = other (get_or a x 0) (plan_answer s x r a below e (n ∙ sym m) (omega (arith, n)) h)
+pub never_else : (s : SpaceState) (old : List ℕ) (x : ℕ) (r : Result (Option ℕ) SpaceFault) (a : List ℕ) (below : List Node) → s.pile ≡ table (single a) ∷ below → length a ≡ s.problem.variables → s.variables ≡ s.problem.variables → length old ≡ length a → x < length old → Leasts s x r → ((v : ℕ) → r ≡ Ok (Some v) → ⊥) → ⊥
+never_else s old x r a below e n m room l h other = other (get_or a x 0) (plan_answer s x r a below e (n ∙ sym m) (omega (arith, room)) h)

@@ -173,6 +173,6 @@ abbrev pub none_left : List Visit → Bool
 none_left [] = true
 none_left (n ∷ ns) = false
 
--- A plan on top is copied to the front of the row.
+-- A plan on top is copied to a row of its length.
 abbrev pub Copied : SpaceState → List ℕ → List ℕ → Type 0
-Copied s old new = (a : List ℕ) (below : List Node) → s.pile ≡ table (single a) ∷ below → length a ≡ s.problem.variables → s.variables ≡ s.problem.variables → length a ≤ length old → new ≡ a ++ drop (length a) old
+Copied s old new = (a : List ℕ) (below : List Node) → s.pile ≡ table (single a) ∷ below → length a ≡ s.problem.variables → s.variables ≡ s.problem.variables → length old ≡ length a → new ≡ a

@@ -205,21 +205,16 @@ impl<P: Space, R: Rule> Search<P, R> {
         }
     }
 
-    // Copies the plan on top to the front of the row.
+    // Copies the plan on top to the row, which is as long.
     fn copy(&self, row: &mut [u8])
         ensures { P.Space.sound self.now.space → Copied (P.Space.means self.now.space) row.old row.new }
     {
-        for x in 0..self.space.variables() {
-            if x >= row.len() {
-                return;
+        for (x, place) in row.iter_mut().enumerate() {
+            match self.space.least(x) {
+                Ok(Some(v)) => *place = v,
+                Ok(None) => return,
+                Err(_) => return,
             }
-            let Ok(least) = self.space.least(x) else {
-                return;
-            };
-            let Some(v) = least else {
-                return;
-            };
-            row[x] = v;
         }
     }
 
@@ -230,9 +225,9 @@ impl<P: Space, R: Rule> Search<P, R> {
         if !self.session.is_open() {
             return Err(SearchFault::Idle);
         }
-        let length = row.len();
-        if length < self.space.variables() {
-            return Err(SearchFault::Row(length));
+        let n = self.space.variables();
+        if row.len() < n {
+            return Err(SearchFault::Row(row.len()));
         }
         if budget == 0 {
             return Err(SearchFault::Budget);
@@ -242,7 +237,7 @@ impl<P: Space, R: Rule> Search<P, R> {
                 return Ok(Answer::Done(count));
             };
             if let State::Plan = state {
-                self.copy(row);
+                self.copy(&mut row[..n]);
                 return Ok(Answer::Plan(count + 1));
             }
         }

@@ -1,4 +1,5 @@
-use Rattle.std.proofs.Common.{◌≡◌, ℕ, ◌+◌, ◌-◌, ◌≤◌, true, List, ◌++◌, length, drop, Some, None, Ok, Option, Result, sym, refl, ap, ◌∙◌, subst, subst₂, arith}
+use Rattle.std.proofs.Common.{◌≡◌, ℕ, ◌+◌, ◌-◌, ◌≤◌, true, List, ◌++◌, length, take, drop, Some, None, Ok, Option, Result, sym, refl, ap, ◌∙◌, ap₂, subst, subst₂, arith}
+use Rattle.std.proofs.lemmas.List.{length-take-le}
 use Rattle.tree.specs.Filter.{Problem}
 use Rattle.tree.specs.Search.{Rule}
 use Rattle.spaces.specs.Pile.{SpaceState}
@@ -25,7 +26,7 @@ returns-in_default g c = λ o.
     let mid = c.loop-count.invariant.1 o se in
     let did = c.step.ensures mid.0.session mid.1 in
     let h = stepped_at (view means picks c.loop-count.self) (view means picks c.step.new.self) c.step.result c.in_ok-state.field-0 None did.0 c.in_ok-state.was c.in_default.is in
-    let w = went_done (view means picks c.args.self.now) c.args.budget c.loop-count.count (view means picks c.loop-count.self) mid.0 c.args.row.now se (omega (arith, c.if-length-variables.false, c.variables.ensures o.part)) (omega (arith, c.if-budget-eq0.false)) (view means picks c.step.new.self) h in
+    let w = went_done (view means picks c.args.self.now) c.args.budget c.loop-count.count (view means picks c.loop-count.self) mid.0 c.args.row.now se (omega (arith, c.if-row-n.false, c.variables-n.ensures o.part)) (omega (arith, c.if-budget-eq0.false)) (view means picks c.step.new.self) h in
     (subst (λ (new : List ℕ). Went (view means picks c.args.self.now) c.args.budget c.args.row.now (Done c.loop-count.count) (view means picks c.step.new.self) new) (sym c.loop-count.invariant.0) w, did.1)
 
 pub returns-in-Plan : goal.returns-in-Plan
@@ -41,15 +42,17 @@ returns-in-Plan g c = λ o.
     let t = view means picks b in
     let h = stepped_at m t c.step.result c.in_ok-state.field-0 _ did.0 c.in_ok-state.was (c.in-Some.is ∙ ap Some c.in-Plan.is) in
     let row = c.loop-count.invariant.0 in
-    let room : (means c.args.self.now.space).problem.variables ≤ length c.args.row.now = omega (arith, c.if-length-variables.false, c.variables.ensures o.part) in
-    let copied : (v : PlanVisited m.space.problem m.rule (rest m) (rest t) t.space.pile (c.args.budget - (c.loop-count.count + 1))) → c.copy.new.row ≡ v.values ++ drop (length v.values) c.args.row.now = λ v.
+    let room : (means c.args.self.now.space).problem.variables ≤ length c.args.row.now = omega (arith, c.if-row-n.false, c.variables-n.ensures o.part) in
+    let n : c.variables-n.result ≡ (means c.args.self.now.space).problem.variables = c.variables-n.ensures o.part in
+    let copied : (v : PlanVisited m.space.problem m.rule (rest m) (rest t) t.space.pile (c.args.budget - (c.loop-count.count + 1))) → c.copy.new.row ++ drop c.variables-n.result c.loop-count.row ≡ v.values ++ drop (length v.values) c.args.row.now = λ v.
     let prob : t.space.problem ≡ m.space.problem = ap (λ (x : SpaceState). x.problem) h.space in
     let here = subst₂ (λ (P : Problem) (R : Rule). Sitting P R true t.space.pile t.space.choices) prob h.rule (way means sound picks b h.session did.1) in
     let q = plan_on_top m.space.problem m.rule (g.P.Space.laws c.loop-count.self.space mid.1.part).lawful (g.R.Rule.lawful c.loop-count.self.rule m.space.problem) t.space.pile t.space.choices v.node v.below v.values v.top v.is here in
     let same : m.space.problem ≡ (means c.args.self.now.space).problem = ap (λ (x : SpaceState). x.problem) mid.0.space in
-    let long : length v.values ≡ (means c.args.self.now.space).problem.variables = q.1 ∙ ap (λ (P : Problem). P.variables) same in
-    c.copy.ensures did.1.part v.values v.below q.0 (q.1 ∙ ap (λ (P : Problem). P.variables) (sym prob)) (did.1.sits.ready h.session) (omega (arith, long, room, ap length row)) ∙ ap (λ (us : List ℕ). v.values ++ drop (length v.values) us) row in
-    (went_plan (view means picks c.args.self.now) c.args.budget c.loop-count.count m mid.0 c.args.row.now se room (omega (arith, c.if-budget-eq0.false)) t c.copy.new.row c.loop-count-test.true h copied, did.1)
+    let long : length v.values ≡ c.variables-n.result = q.1 ∙ ap (λ (P : Problem). P.variables) same ∙ sym n in
+    let front : length (take c.variables-n.result c.loop-count.row) ≡ length v.values = length-take-le c.variables-n.result c.loop-count.row (omega (arith, c.if-row-n.false, ap length row)) ∙ sym long in
+    ap₂ (λ (us vs : List ℕ). us ++ vs) (c.copy.ensures did.1.part v.values v.below q.0 (q.1 ∙ ap (λ (P : Problem). P.variables) (sym prob)) (did.1.sits.ready h.session) front) (ap₂ (λ (k : ℕ) (us : List ℕ). drop k us) (sym long) row) in
+    (went_plan (view means picks c.args.self.now) c.args.budget c.loop-count.count m mid.0 c.args.row.now se room (omega (arith, c.if-budget-eq0.false)) t (c.copy.new.row ++ drop c.variables-n.result c.loop-count.row) c.loop-count-test.true h copied, did.1)
 
 pub loop-count-preserved : goal.loop-count-preserved
 loop-count-preserved g c = (
@@ -72,7 +75,7 @@ returns-then-ends g c = λ o.
     let mid = c.loop-count.invariant.1 o se in
     let m = view means picks c.loop-count.self in
     let over : c.loop-count.count ≡ c.args.budget = omega (arith, c.loop-count-test.false, c.loop-count.auto.count-end) in
-    let w = went_over_done (view means picks c.args.self.now) c.args.budget c.args.budget m (subst (λ (k : ℕ). Mid (view means picks c.args.self.now) c.args.budget k m) over mid.0) c.args.row.now se (omega (arith, c.if-length-variables.false, c.variables.ensures o.part)) (omega (arith, c.if-budget-eq0.false)) (omega arith) (sym (c.ends.ensures mid.1 mid.0.session) ∙ c.if-ends.true) in
+    let w = went_over_done (view means picks c.args.self.now) c.args.budget c.args.budget m (subst (λ (k : ℕ). Mid (view means picks c.args.self.now) c.args.budget k m) over mid.0) c.args.row.now se (omega (arith, c.if-row-n.false, c.variables-n.ensures o.part)) (omega (arith, c.if-budget-eq0.false)) (omega arith) (sym (c.ends.ensures mid.1 mid.0.session) ∙ c.if-ends.true) in
     (subst (λ (new : List ℕ). Went (view means picks c.args.self.now) c.args.budget c.args.row.now (Done c.args.budget) m new) (sym c.loop-count.invariant.0) w, mid.1)
 
 pub returns-else-ends : goal.returns-else-ends
@@ -83,5 +86,5 @@ returns-else-ends g c = λ o.
     let mid = c.loop-count.invariant.1 o se in
     let m = view means picks c.loop-count.self in
     let over : c.loop-count.count ≡ c.args.budget = omega (arith, c.loop-count-test.false, c.loop-count.auto.count-end) in
-    let w = went_over_spent (view means picks c.args.self.now) c.args.budget c.args.budget m (subst (λ (k : ℕ). Mid (view means picks c.args.self.now) c.args.budget k m) over mid.0) c.args.row.now se (omega (arith, c.if-length-variables.false, c.variables.ensures o.part)) (omega (arith, c.if-budget-eq0.false)) (omega arith) (sym (c.ends.ensures mid.1 mid.0.session) ∙ c.if-ends.false) in
+    let w = went_over_spent (view means picks c.args.self.now) c.args.budget c.args.budget m (subst (λ (k : ℕ). Mid (view means picks c.args.self.now) c.args.budget k m) over mid.0) c.args.row.now se (omega (arith, c.if-row-n.false, c.variables-n.ensures o.part)) (omega (arith, c.if-budget-eq0.false)) (omega arith) (sym (c.ends.ensures mid.1 mid.0.session) ∙ c.if-ends.false) in
     (subst (λ (new : List ℕ). Went (view means picks c.args.self.now) c.args.budget c.args.row.now (Spent c.args.budget) m new) (sym c.loop-count.invariant.0) w, mid.1)
