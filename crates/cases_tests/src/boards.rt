@@ -74,17 +74,7 @@ fn is_root<P: Space>(space: &P, root: &[Window]) -> bool {
 
 // The values from `from` on are at the front of the row.
 fn continues(plans: &[u8], from: usize, row: &[u8], n: usize) -> bool {
-    let mut at = from;
-    for v in row.iter().take(n) {
-        let Some(u) = plans.get(at) else {
-            return false;
-        };
-        if *u != *v {
-            return false;
-        }
-        at = at.saturating_add(1);
-    }
-    true
+    plans.iter().skip(from).take(n).eq(row.iter().take(n))
 }
 
 impl Claims for Grown<'_> {

@@ -10,13 +10,7 @@ pub struct Pair {
 }
 
 fn size_of(pairs: &[Pair], x: u8) -> usize {
-    let mut size: usize = 0;
-    for pair in pairs {
-        if pair.variable == x {
-            size = size.saturating_add(1);
-        }
-    }
-    size
+    pairs.iter().filter(|pair| pair.variable == x).count()
 }
 
 // The lowest that the coefficient times a value of x can be.
@@ -53,22 +47,16 @@ fn supported(pairs: &[Pair], rule: &Rule, pair: Pair) -> bool {
             !listed || sum <= i64::from(*bound)
         }
         Rule::Different { variables } => {
-            let mut listed = false;
-            for x in variables.iter() {
-                if *x == pair.variable {
-                    listed = true;
-                }
-            }
-            if !listed {
+            if !variables.contains(&pair.variable) {
                 return true;
             }
             for x in variables.iter() {
-                if *x != pair.variable && size_of(pairs, *x) == 1 {
-                    for other in pairs {
-                        if other.variable == *x && other.value == pair.value {
-                            return false;
-                        }
-                    }
+                let other = Pair {
+                    variable: *x,
+                    value: pair.value,
+                };
+                if *x != pair.variable && size_of(pairs, *x) == 1 && pairs.contains(&other) {
+                    return false;
                 }
             }
             true
@@ -77,21 +65,11 @@ fn supported(pairs: &[Pair], rule: &Rule, pair: Pair) -> bool {
 }
 
 fn all_support(pairs: &[Pair], rules: &[Rule], pair: Pair) -> bool {
-    for rule in rules {
-        if !supported(pairs, rule, pair) {
-            return false;
-        }
-    }
-    true
+    rules.iter().all(|rule| supported(pairs, rule, pair))
 }
 
 fn all_filled(pairs: &[Pair], variables: u8) -> bool {
-    for x in 0..variables {
-        if size_of(pairs, x) == 0 {
-            return false;
-        }
-    }
-    true
+    (0..variables).all(|x| size_of(pairs, x) > 0)
 }
 
 // The filtered table, or none where the table has failed.

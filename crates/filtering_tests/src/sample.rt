@@ -1,6 +1,7 @@
 // Small models by chance, with their bytes.
 use model::values::{Term, Window};
 use std::alloc::{AllocError, Global};
+use trial::mixed;
 
 #[derive(Drop)]
 pub enum Rule {
@@ -23,9 +24,7 @@ pub struct Chance {
 impl Chance {
     // A number below most, or 0 where most is 0.
     pub fn below(&mut self, most: u8) -> u8 {
-        let a = self.state ^ (self.state << 13);
-        let b = a ^ (a >> 7);
-        self.state = b ^ (b << 17);
+        self.state = mixed(self.state);
         if most == 0 {
             return 0;
         }

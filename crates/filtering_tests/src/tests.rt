@@ -29,18 +29,6 @@ fn pairs_of<T: DomainTable>(
     Ok(pairs)
 }
 
-fn same(a: &[Pair], b: &[Pair]) -> bool {
-    if a.len() != b.len() {
-        return false;
-    }
-    for (x, y) in a.iter().zip(b.iter()) {
-        if x.variable != y.variable || x.value != y.value {
-            return false;
-        }
-    }
-    true
-}
-
 // Filters the table as it is, and compares with the judge. It answers whether there is a filtered table.
 fn agrees<T: DomainTable>(
     rt: &impl Abort,
@@ -62,7 +50,7 @@ fn agrees<T: DomainTable>(
         Some(left) => {
             assert!(rt; found, "not failed");
             let after = pairs_of(heap, table, variables)?;
-            assert!(rt; same(&after, &left), "the filtered table");
+            assert!(rt; after.as_slice() == left.as_slice(), "the filtered table");
         }
         None => {
             assert!(rt; !found, "failed");
@@ -209,7 +197,7 @@ fn one_below_the_other(rt: HostRuntime) -> Result<(), Fail> {
             value: 2,
         },
     ];
-    assert!(rt; same(&left, &expected));
+    assert!(rt; left.as_slice() == expected.as_slice());
     Ok(())
 }
 

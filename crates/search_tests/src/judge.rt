@@ -5,15 +5,10 @@ use std::alloc::{AllocError, Global};
 // The longest plan of these tests.
 pub const MOST: usize = 8;
 
-#[derive(Clone, Copy)]
-pub struct Node {
-    pub is_plan: bool,
-    pub values: [u8; MOST],
-}
-
 #[derive(Drop)]
 pub struct Judge {
-    nodes: Vec<Node>,
+    // the plan that each node is, if it is one
+    nodes: Vec<Option<[u8; MOST]>>,
     // how many nodes were counted since the session began
     pub counted: usize,
 }
@@ -26,8 +21,8 @@ impl Judge {
         }
     }
 
-    pub fn learns(&mut self, is_plan: bool, values: [u8; MOST]) -> Result<(), AllocError> {
-        self.nodes.push(Node { is_plan, values })?;
+    pub fn learns(&mut self, plan: Option<[u8; MOST]>) -> Result<(), AllocError> {
+        self.nodes.push(plan)?;
         Ok(())
     }
 
@@ -39,13 +34,13 @@ impl Judge {
     pub fn next(&mut self, budget: u64) -> (Answer, Option<[u8; MOST]>) {
         let mut count = 0u64;
         for _ in 0..budget {
-            let Some(node) = self.nodes.get(self.counted) else {
+            let Some(plan) = self.nodes.get(self.counted) else {
                 return (Answer::Done(count), None);
             };
             self.counted = self.counted.saturating_add(1);
             count = count.saturating_add(1);
-            if node.is_plan {
-                return (Answer::Plan(count), Some(node.values));
+            if plan.is_some() {
+                return (Answer::Plan(count), *plan);
             }
         }
         if self.counted >= self.nodes.len() {

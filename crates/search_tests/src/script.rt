@@ -1,32 +1,18 @@
 // Sessions with calls by chance.
 use crate::judge::{Judge, MOST};
+use faults::Fault;
 use search::rule::Rule;
 use search::search::{Answer, Search, SearchFault};
 use spaces::space::{Space, State};
 use std::alloc::{AllocError, Global};
-
-pub fn mixed(seed: u64) -> u64 {
-    let mut x = seed;
-    x ^= x << 13;
-    x ^= x >> 7;
-    x ^= x << 17;
-    x
-}
+use trial::{Refusal, mixed, told};
 
 fn is_refused(answer: Result<Answer, SearchFault>, number: u8, place: usize) -> bool {
-    match answer {
-        Ok(_) => false,
-        Err(fault) => fault.number() == number && fault.place() == place,
-    }
+    told(answer) == Some(Refusal { number, place })
 }
 
 fn untouched(row: &[u8]) -> bool {
-    for v in row {
-        if *v != 99 {
-            return false;
-        }
-    }
-    true
+    row.iter().all(|v| *v == 99)
 }
 
 // Visits node by node, in a session of its own.
@@ -52,11 +38,11 @@ fn visit_all<P: Space, R: Rule>(
     for _ in 0..10000u32 {
         let mut row = [0; MOST];
         match search.next(1, &mut row) {
-            Ok(Answer::Plan(_)) => judge.learns(true, row)?,
-            Ok(Answer::Spent(_)) => judge.learns(false, row)?,
+            Ok(Answer::Plan(_)) => judge.learns(Some(row))?,
+            Ok(Answer::Spent(_)) => judge.learns(None)?,
             Ok(Answer::Done(count)) => {
                 if count == 1 {
-                    judge.learns(false, row)?;
+                    judge.learns(None)?;
                 }
                 return Ok(true);
             }
@@ -85,12 +71,11 @@ fn next_agrees<P: Space, R: Rule>(
     match plan {
         None => untouched(&row),
         Some(values) => {
-            let mut i = 0usize;
-            for (v, u) in row.iter().zip(values.iter()) {
-                if i < n && *v != *u || i >= n && *v != 99 {
+            for (i, (v, u)) in row.iter().zip(values.iter()).enumerate() {
+                let kept = if i < n { *u } else { 99 };
+                if *v != kept {
                     return false;
                 }
-                i = i.saturating_add(1);
             }
             true
         }

@@ -49,15 +49,6 @@ pub struct Pair<A, B> {
     pub same: bool,
 }
 
-fn alike(a: &[u8], b: &[u8]) -> bool {
-    for (v, u) in a.iter().zip(b.iter()) {
-        if *v != *u {
-            return false;
-        }
-    }
-    true
-}
-
 impl<A: Plans, B: Plans> Plans for Pair<A, B> {
     type Held = (A::Held, B::Held);
 
@@ -77,7 +68,7 @@ impl<A: Plans, B: Plans> Plans for Pair<A, B> {
         let one = self.first.next(budget, row)?;
         let two = self.second.next(budget, &mut other)?;
         let plans_alike = match one {
-            Answer::Plan(_) => alike(row, &other),
+            Answer::Plan(_) => row[..] == other[..],
             _ => true,
         };
         self.same = self.same && one == two && plans_alike;

@@ -6,6 +6,7 @@ mod wish;
 use crate::boards::{MOST, Pair, Plans};
 use crate::wish::{Board, Branching, Wish};
 use bank::standard::standard;
+use faults::Fault;
 use marking::Marking;
 use model::model::Model;
 use recomputing::recomputing::Recomputing;
@@ -20,20 +21,6 @@ use stores::trail::{Cell, Entry, Trail};
 use tables::table::DomainTable;
 use tables::words::WordTable;
 
-fn show_fault(rt: &HostRuntime, fault: &SearchFault) -> io::Result<()> {
-    let number = fault.number();
-    let place = fault.place();
-    println!(rt; "fault {number} {place}")
-}
-
-fn show_plan(rt: &HostRuntime, number: u64, values: &[u8], n: usize) -> io::Result<()> {
-    print!(rt; "{number}:")?;
-    for v in values.iter().take(n) {
-        print!(rt; " {v}")?;
-    }
-    println!(rt; "")
-}
-
 // How a list ended, and how many nodes were visited.
 enum End {
     Done(u64),
@@ -43,87 +30,92 @@ enum End {
     Fault(SearchFault),
 }
 
-// Shows the plans wished for, numbered from 0.
-fn list<S: Plans>(
-    rt: &HostRuntime,
-    plans: &mut S,
-    wish: &Wish,
+// What is wished for, of a model with n variables, and where it is shown.
+#[derive(Clone, Copy)]
+struct Listing<'a> {
+    rt: &'a HostRuntime,
+    wish: &'a Wish,
     n: usize,
-    row: &mut [u8],
-) -> io::Result<End> {
-    let mut number = 0u64;
-    let mut nodes = 0u64;
-    for _ in 0..u64::MAX {
-        let budget = wish.budget.min(wish.limit.saturating_sub(nodes));
-        if budget == 0 {
-            return Ok(End::Spent(nodes));
+}
+
+impl Listing<'_> {
+    fn show_fault(&self, fault: SearchFault) -> io::Result<()> {
+        println!(self.rt; "fault {} {}", fault.number(), fault.place())
+    }
+
+    fn show_plan(&self, number: u64, row: &[u8]) -> io::Result<()> {
+        print!(self.rt; "{number}:")?;
+        for v in row.iter().take(self.n) {
+            print!(self.rt; " {v}")?;
         }
-        let answer = match plans.next(budget, row) {
-            Ok(answer) => answer,
-            Err(fault) => return Ok(End::Fault(fault)),
-        };
-        if !plans.agree() {
-            return Ok(End::Differ(number));
-        }
-        match answer {
-            Answer::Plan(count) => {
-                nodes = nodes.saturating_add(count);
-                match wish.plan {
-                    None => show_plan(rt, number, row, n)?,
-                    Some(wanted) => {
-                        if wanted == number {
-                            show_plan(rt, number, row, n)?;
+        println!(self.rt; "")
+    }
+
+    // Shows the plans wished for, numbered from 0.
+    fn list<S: Plans>(&self, plans: &mut S) -> io::Result<End> {
+        let mut row = [0; MOST];
+        let mut number = 0u64;
+        let mut nodes = 0u64;
+        for _ in 0..u64::MAX {
+            let budget = self.wish.budget.min(self.wish.limit.saturating_sub(nodes));
+            if budget == 0 {
+                return Ok(End::Spent(nodes));
+            }
+            let answer = match plans.next(budget, &mut row) {
+                Ok(answer) => answer,
+                Err(fault) => return Ok(End::Fault(fault)),
+            };
+            if !plans.agree() {
+                return Ok(End::Differ(number));
+            }
+            match answer {
+                Answer::Plan(count) => {
+                    nodes = nodes.saturating_add(count);
+                    match self.wish.plan {
+                        None => self.show_plan(number, &row)?,
+                        Some(wanted) if wanted == number => {
+                            self.show_plan(number, &row)?;
                             return Ok(End::Found);
                         }
+                        Some(_) => {}
                     }
+                    number = number.saturating_add(1);
                 }
-                number = number.saturating_add(1);
+                Answer::Done(count) => return Ok(End::Done(nodes.saturating_add(count))),
+                Answer::Spent(count) => nodes = nodes.saturating_add(count),
             }
-            Answer::Done(count) => return Ok(End::Done(nodes.saturating_add(count))),
-            Answer::Spent(count) => nodes = nodes.saturating_add(count),
         }
+        Ok(End::Spent(nodes))
     }
-    Ok(End::Spent(nodes))
-}
 
-fn show_end(rt: &HostRuntime, end: End, wish: &Wish, boards: bool) -> io::Result<()> {
-    match end {
-        End::Found => return Ok(()),
-        End::Differ(number) => return println!(rt; "the boards differ at {number}"),
-        End::Fault(fault) => return show_fault(rt, &fault),
-        End::Spent(nodes) => println!(rt; "spent {nodes}")?,
-        End::Done(nodes) => {
-            if let Some(wanted) = wish.plan {
-                return println!(rt; "no plan {wanted}");
+    fn show_end(&self, end: End) -> io::Result<()> {
+        match end {
+            End::Found => return Ok(()),
+            End::Differ(number) => return println!(self.rt; "the boards differ at {number}"),
+            End::Fault(fault) => return self.show_fault(fault),
+            End::Spent(nodes) => println!(self.rt; "spent {nodes}")?,
+            End::Done(nodes) => {
+                if let Some(wanted) = self.wish.plan {
+                    return println!(self.rt; "no plan {wanted}");
+                }
+                println!(self.rt; "done {nodes}")?;
             }
-            println!(rt; "done {nodes}")?;
         }
+        if self.wish.board == Board::All {
+            println!(self.rt; "the boards agree")?;
+        }
+        Ok(())
     }
-    if boards {
-        println!(rt; "the boards agree")?;
-    }
-    Ok(())
-}
 
-// Lists in a session.
-fn run<S: Plans>(
-    rt: &HostRuntime,
-    wish: &Wish,
-    n: usize,
-    plans: &mut S,
-    boards: bool,
-) -> io::Result<()> {
-    match plans.begin() {
-        Err(fault) => show_fault(rt, &fault),
-        Ok(held) => {
-            let mut row = [0; MOST];
-            let end = list(rt, plans, wish, n, &mut row);
-            plans.close(held);
-            match end {
-                Ok(end) => show_end(rt, end, wish, boards),
-                Err(error) => Err(error),
-            }
-        }
+    // Lists in a session.
+    fn run<S: Plans>(&self, plans: &mut S) -> io::Result<()> {
+        let held = match plans.begin() {
+            Ok(held) => held,
+            Err(fault) => return self.show_fault(fault),
+        };
+        let end = self.list(plans);
+        plans.close(held);
+        self.show_end(end?)
     }
 }
 
@@ -152,10 +144,11 @@ fn solve<R: Rule + Copy>(rt: &HostRuntime, wish: &Wish, model: &Model, rule: R) 
     let mut large = Search::open(large, rule);
     let mut small = Search::open(small, rule);
     let mut station = Search::open(station, rule);
+    let listing = Listing { rt, wish, n };
     match wish.board {
-        Board::Large => run(rt, wish, n, &mut large, false),
-        Board::Small => run(rt, wish, n, &mut small, false),
-        Board::Station => run(rt, wish, n, &mut station, false),
+        Board::Large => listing.run(&mut large),
+        Board::Small => listing.run(&mut small),
+        Board::Station => listing.run(&mut station),
         Board::All => {
             let others = Pair {
                 first: small,
@@ -167,7 +160,7 @@ fn solve<R: Rule + Copy>(rt: &HostRuntime, wish: &Wish, model: &Model, rule: R) 
                 second: others,
                 same: true,
             };
-            run(rt, wish, n, &mut all, true)
+            listing.run(&mut all)
         }
     }
 }
@@ -200,10 +193,12 @@ fn main(rt: HostRuntime) -> io::Result<()> {
     rt.stdin().read_to_end(&mut bytes)?;
     let mut model = Model::fresh();
     if let Err(fault) = model.read(bytes.as_slice()) {
-        let number = fault.number();
-        let place = fault.place();
-        let reason = fault.reason();
-        return println!(rt; "refused {number} {place}: {reason}");
+        return println!(rt;
+            "refused {} {}: {}",
+            fault.number(),
+            fault.place(),
+            fault.reason()
+        );
     }
     match wish.branching {
         Branching::First => solve(&rt, &wish, &model, First),

@@ -1,5 +1,11 @@
 // What a run was asked for: its words.
-#[derive(Clone, Copy)]
+use std::str::FromStr;
+
+// A word or a value that is not known.
+#[derive(Clone, Copy, PartialEq, Eq, Debug)]
+pub struct Unknown;
+
+#[derive(Clone, Copy, PartialEq, Eq, Debug)]
 pub enum Board {
     // a trail, marked at every node
     Large,
@@ -11,10 +17,36 @@ pub enum Board {
     All,
 }
 
-#[derive(Clone, Copy)]
+impl FromStr for Board {
+    type Err = Unknown;
+
+    fn from_str(s: &str) -> Result<Board, Unknown> {
+        match s {
+            "large" => Ok(Board::Large),
+            "small" => Ok(Board::Small),
+            "station" => Ok(Board::Station),
+            "all" => Ok(Board::All),
+            _ => Err(Unknown),
+        }
+    }
+}
+
+#[derive(Clone, Copy, PartialEq, Eq, Debug)]
 pub enum Branching {
     First,
     Small,
+}
+
+impl FromStr for Branching {
+    type Err = Unknown;
+
+    fn from_str(s: &str) -> Result<Branching, Unknown> {
+        match s {
+            "first" => Ok(Branching::First),
+            "small" => Ok(Branching::Small),
+            _ => Err(Unknown),
+        }
+    }
 }
 
 #[derive(Clone, Copy)]
@@ -44,57 +76,27 @@ impl Wish {
     pub fn with(self, word: &str) -> Option<Wish> {
         let (name, value) = word.split_once("=")?;
         match name {
-            "rule" => self.with_rule(value),
-            "board" => self.with_board(value),
-            "budget" => self.with_budget(value),
-            "limit" => self.with_limit(value),
-            "plan" => self.with_plan(value),
+            "rule" => {
+                let branching = value.parse::<Branching>().ok()?;
+                Some(Wish { branching, ..self })
+            }
+            "board" => {
+                let board = value.parse::<Board>().ok()?;
+                Some(Wish { board, ..self })
+            }
+            "budget" => {
+                let budget = value.parse::<u64>().ok().filter(|nodes| *nodes > 0)?;
+                Some(Wish { budget, ..self })
+            }
+            "limit" => {
+                let limit = value.parse::<u64>().ok()?;
+                Some(Wish { limit, ..self })
+            }
+            "plan" => {
+                let plan = Some(value.parse::<u64>().ok()?);
+                Some(Wish { plan, ..self })
+            }
             _ => None,
-        }
-    }
-
-    fn with_rule(self, value: &str) -> Option<Wish> {
-        let branching = match value {
-            "first" => Branching::First,
-            "small" => Branching::Small,
-            _ => return None,
-        };
-        Some(Wish { branching, ..self })
-    }
-
-    fn with_board(self, value: &str) -> Option<Wish> {
-        let board = match value {
-            "large" => Board::Large,
-            "small" => Board::Small,
-            "station" => Board::Station,
-            "all" => Board::All,
-            _ => return None,
-        };
-        Some(Wish { board, ..self })
-    }
-
-    fn with_budget(self, value: &str) -> Option<Wish> {
-        match value.parse::<u64>() {
-            Ok(0) => None,
-            Ok(budget) => Some(Wish { budget, ..self }),
-            Err(_) => None,
-        }
-    }
-
-    fn with_limit(self, value: &str) -> Option<Wish> {
-        match value.parse::<u64>() {
-            Ok(limit) => Some(Wish { limit, ..self }),
-            Err(_) => None,
-        }
-    }
-
-    fn with_plan(self, value: &str) -> Option<Wish> {
-        match value.parse::<u64>() {
-            Ok(number) => Some(Wish {
-                plan: Some(number),
-                ..self
-            }),
-            Err(_) => None,
         }
     }
 }
