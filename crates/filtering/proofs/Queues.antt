@@ -3,7 +3,7 @@ use Rattle.std.proofs.Common.{◌≡◌, ℕ, zero, suc, ◌+◌, ◌-◌, ◌%�
 use Rattle.std.proofs.lemmas.Bool.{or_cases, or_left, or_right, or_parts, or_from, cases_eq, cases_Bool, cond_both, cond-true, cond-false, eqb-true, eqb-false, eq-eqb, ne_eqb}
 use Rattle.tree.specs.Domains.{size}
 use Rattle.model.specs.Reading.{among}
-use Rattle.filtering.specs.Rings.{around, Once}
+use Rattle.filtering.specs.Rings.{Ring, around, queue, Once, Orderly}
 use Rattle.filtering.specs.Waits.{behind, woken}
 
 -- places
@@ -110,12 +110,11 @@ once-size n (j ∷ q) o f =
 pub once-few : (n : ℕ) (q : List ℕ) → Once q → ((i : ℕ) → among i q ≡ true → i < n) → length q ≤ n
 once-few n q o f = omega (arith, size_le (λ i. among i q) n, once-size n q o f)
 
--- a ring whose places are records below 64 that stand once each has room for one that does not stand there
-pub room : (ring : List ℕ) (h n item : ℕ) → Once (around ring h n) → ((i : ℕ) → among i (around ring h n) ≡ true → i < 64) → item < 64 → among item (around ring h n) ≡ false → n < 64
-room ring h n item once below lt out =
-    let q = around ring h n in
-    let few = once-few 64 (item ∷ q) (out, once) (λ i e. ⊎_elim (λ k. let j = eqb-true i item k in omega (arith, j, lt)) (below i) (or_cases (eqb i item) (among i q) e)) in
-    omega (arith, few, around-length ring h n)
+-- a ring in order has room for a record that does not wait
+pub room : (l : Ring) (item : ℕ) → Orderly l → item < 64 → among item (queue l) ≡ false → l.len < 64
+room l item o lt out =
+    let few = once-few 64 (item ∷ queue l) (out, o.once) (λ i e. ⊎_elim (λ k. let j = eqb-true i item k in omega (arith, j, lt)) (o.below i) (or_cases (eqb i item) (among i (queue l)) e)) in
+    omega (arith, few, around-length l.ring l.head l.len)
 
 -- the word without the first
 pub without_first : (i : ℕ) (b : Bool) (j : ℕ) → (i ≡ j → b ≡ false) → ((eqb i j || b) && not (eqb i j)) ≡ b
@@ -157,6 +156,13 @@ woken-left R (suc k) q i h =
     let r = woken-left R k q i (ap (among i) (sym (cond-false (R k) (behind W k) W f)) ∙ h) in
     (r.0, λ l. ⊎_elim (λ e. ap R e ∙ f) (λ d. r.1 (omega (arith, d, l))) (cases_eq i k)))
     (cases_Bool (R k))
+
+behind-once : (q : List ℕ) (k : ℕ) → Once q → Once (behind q k)
+behind-once q k o = cond_both (among k q) q (q ++ (k ∷ [])) Once (λ t. o) (λ f. once-end k q o f)
+
+pub woken-once : (R : ℕ → Bool) (k : ℕ) (q : List ℕ) → Once q → Once (woken R k q)
+woken-once R zero q o = o
+woken-once R (suc k) q o = let w = woken-once R k q o in cond_both (R k) (behind (woken R k q) k) (woken R k q) Once (λ t. behind-once (woken R k q) k w) (λ f. w)
 
 pub woken_only : (R : ℕ → Bool) (k : ℕ) (q : List ℕ) (i : ℕ) → among i (woken R k q) ≡ true → (among i q ≡ true) ⊎ (i < k)
 woken_only R zero q i h = inl h

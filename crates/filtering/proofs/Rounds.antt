@@ -17,9 +17,10 @@ use Rattle.kinds.specs.Problems.{Asks, Laws, together}
 use Rattle.kinds.specs.Passes.{Alive, Dead, Narrows, Passed}
 use Rattle.kinds.specs.declared.shrunk.Shrunk.{Shrunk}
 use Rattle.kinds.specs.Shrunk.{set_of, has_failed}
-use Rattle.filtering.specs.Waits.{queue, Orderly, Idle, woken}
+use Rattle.filtering.specs.Rings.{queue, Once}
+use Rattle.filtering.specs.Waits.{Idle, woken}
 use Rattle.filtering.specs.Filters.{does_begin, Begins, Narrowed, FilledUp}
-use Rattle.filtering.proofs.Queues.{once-few, woken-left, woken_only}
+use Rattle.filtering.proofs.Queues.{once-few, woken-left, woken-once, woken_only}
 use Rattle.filtering.specs.declared.list.WaitingList.{WaitingList}
 use Rattle.filtering.specs.declared.filter.Start.{Start}
 use Rattle.filtering.specs.declared.filter.Start.TheVariants.{All, Changed}
@@ -30,15 +31,12 @@ left A T q = total (together A) T * 65 + length q
 
 -- Between two rounds: a record that does not wait is stable.
 pub record Mid (A : Asks) (s t : TableState) (l : WaitingList) (round : ℕ) : Type 0 where
+  pub once : Once (queue l)
   pub narrowed : Narrowed (together A) s t
   pub full : Full (together A) t.domains
   pub rest : (i : ℕ) → i < A.count → among i (queue l) ≡ false → (A.demand i).stable t.domains ≡ true
   pub known : (i : ℕ) → among i (queue l) ≡ true → i < A.count
   pub enough : left A t.domains (queue l) + round ≤ 266304
-
--- every list is in order
-pub orderly : (l : WaitingList) → Orderly l
-orderly l = record { set = l.set_is; once = l.once; below = l.below }
 
 module _ (A : Asks) (laws : Laws A) where
   few-values : (s : TableState) → s.variables ≡ A.variables → s.width ≡ A.width → Bounds s → total (together A) s.domains ≤ 4096
@@ -49,8 +47,8 @@ module _ (A : Asks) (laws : Laws A) where
       let q = mul-le-mul n w in
       omega (arith, p, q)
 
-  few_waiting : (l : WaitingList) → length (queue l) ≤ 64
-  few_waiting l = once-few 64 (queue l) l.once l.below
+  few_waiting : (q : List ℕ) → Once q → ((i : ℕ) → among i q ≡ true → i < A.count) → length q ≤ 64
+  few_waiting q once known = let few = once-few A.count q once known in omega (arith, few, laws.few)
 
   pub narrowed_none : (s : TableState) → Narrowed (together A) s s
   narrowed_none s = record { others = refl; inside = λ x v h. h; keeps = λ S f. f.inside }
@@ -66,13 +64,17 @@ module _ (A : Asks) (laws : Laws A) where
   pub start_mid : (s : TableState) (start : Start) (R : ℕ → Bool) (q : List ℕ) (l : WaitingList) → s.variables ≡ A.variables → s.width ≡ A.width → Bounds s
       → ((x : ℕ) → x < s.variables → Alive s.domains x) → ((i : ℕ) → i < A.count → R i ≡ false → (A.demand i).stable s.domains ≡ true)
       → q ≡ [] → queue l ≡ woken R A.count q → Mid A s s l 0
-  start_mid s start R q l vs ws b f settled e w = record {
-    narrowed = narrowed_none s;
-    full = λ x h. f x (omega (arith, vs, h));
-    rest = λ i h n. settled i h ((woken-left R A.count q i (ap (among i) (sym w) ∙ n)).1 h);
-    known = λ i h. ⊎_elim (λ k. absurd (both_ways (among i q) (ap (among i) e) k)) (λ k. k) (woken_only R A.count q i (ap (among i) (sym w) ∙ h));
-    enough = omega (arith, few-values s vs ws b, few_waiting l);
-  }
+  start_mid s start R q l vs ws b f settled e w =
+      let once = subst Once (sym w) (woken-once R A.count q (subst Once (sym e) tt)) in
+      let known : (i : ℕ) → among i (queue l) ≡ true → i < A.count = λ i h. ⊎_elim (λ k. absurd (both_ways (among i q) (ap (among i) e) k)) (λ k. k) (woken_only R A.count q i (ap (among i) (sym w) ∙ h)) in
+      record {
+        once = once;
+        narrowed = narrowed_none s;
+        full = λ x h. f x (omega (arith, vs, h));
+        rest = λ i h n. settled i h ((woken-left R A.count q i (ap (among i) (sym w) ∙ n)).1 h);
+        known = known;
+        enough = omega (arith, few-values s vs ws b, few_waiting (queue l) once known);
+      }
 
   module _ (s t : TableState) (l m : WaitingList) (round item : ℕ) (mid : Mid A s t l round) (e : queue l ≡ item ∷ queue m) where
     pub first_known : item < A.count
@@ -80,6 +82,9 @@ module _ (A : Asks) (laws : Laws A) where
 
     shorter : length (queue l) ≡ suc (length (queue m))
     shorter = ap length e
+
+    others-once : Once (queue m)
+    others-once = (subst Once e mid.once).1
 
     -- the first has waited, the others wait or are stable
     popped : (i : ℕ) → i < A.count → among i (queue m) ≡ false → i ≢ item → (A.demand i).stable t.domains ≡ true
@@ -98,6 +103,7 @@ module _ (A : Asks) (laws : Laws A) where
       -- nothing was taken away
       pub none_mid : Empty (has (set_of r).word) → has_failed r ≡ false → Mid A s u m (round + 1)
       none_mid z nf = record {
+        once = others-once;
         narrowed = narrowed_on;
         full = filled nf;
         rest = λ i h n. ⊎_elim
@@ -134,18 +140,22 @@ module _ (A : Asks) (laws : Laws A) where
 
         pub some_mid : (w : WaitingList) (R : ℕ → Bool) → ((i : ℕ) → R i ≡ false → (x : ℕ) → x < A.variables → has (set_of r).word x ≡ true → A.names i x ≡ false)
             → has_failed r ≡ false → queue w ≡ woken R A.count (queue m) → Mid A s u w (round + 1)
-        some_mid w R f nf wakes = record {
-          narrowed = narrowed_on;
-          full = filled nf;
-          rest = λ i h n.
-              let k = woken-left R A.count (queue m) i (ap (among i) (sym wakes) ∙ n) in
-              ⊎_elim
-              (λ q. absurd (both_ways (has (set_of r).word some.0) (untouched R f i some.0 (k.1 h) (ap (λ (j : ℕ). (A.demand j).names some.0) q ∙ named_gone)) some.1))
-              (λ d. (laws.keeps i h).rests u.domains t.domains (λ x v y. same_test (u.domains x v) (t.domains x v) (p.narrows.inside x v) (p.shrunk.same x v (untouched R f i x (k.1 h) y))) ∙ popped i h k.0 d)
-              (cases_eq i item);
-          known = λ i h. ⊎_elim (still_known i) (λ k. k) (woken_only R A.count (queue m) i (ap (among i) (sym wakes) ∙ h));
-          enough = omega (arith, fewer, mid.enough, few_waiting w, shorter);
-        }
+        some_mid w R f nf wakes =
+            let once = subst Once (sym wakes) (woken-once R A.count (queue m) others-once) in
+            let known : (i : ℕ) → among i (queue w) ≡ true → i < A.count = λ i h. ⊎_elim (still_known i) (λ k. k) (woken_only R A.count (queue m) i (ap (among i) (sym wakes) ∙ h)) in
+            record {
+              once = once;
+              narrowed = narrowed_on;
+              full = filled nf;
+              rest = λ i h n.
+                  let k = woken-left R A.count (queue m) i (ap (among i) (sym wakes) ∙ n) in
+                  ⊎_elim
+                  (λ q. absurd (both_ways (has (set_of r).word some.0) (untouched R f i some.0 (k.1 h) (ap (λ (j : ℕ). (A.demand j).names some.0) q ∙ named_gone)) some.1))
+                  (λ d. (laws.keeps i h).rests u.domains t.domains (λ x v y. same_test (u.domains x v) (t.domains x v) (p.narrows.inside x v) (p.shrunk.same x v (untouched R f i x (k.1 h) y))) ∙ popped i h k.0 d)
+                  (cases_eq i item);
+              known = known;
+              enough = omega (arith, fewer, mid.enough, few_waiting (queue w) once known, shorter);
+            }
 
   -- a variable has no value left, so that no table fits
   pub none-fits : (s u : TableState) → Narrowed (together A) s u → (x : ℕ) → x < A.variables → Dead u.domains x → NodeOf (together A) s.domains failed

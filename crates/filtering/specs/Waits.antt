@@ -1,19 +1,9 @@
 -- The records that wait, first in first out. Assumes nothing.
-use Rattle.std.specs.Prelude.{◌≡◌, ℕ, zero, suc, ◌%◌, ◌<◌, Bool, true, false, cond, List, [], ◌∷◌, ◌++◌, Some, None, Option, slice_index}
+use Rattle.std.specs.Prelude.{◌≡◌, ℕ, zero, suc, Bool, cond, List, [], ◌∷◌, ◌++◌, Some, None, Option}
 use Rattle.bits.specs.Bit.{has, Empty}
 use Rattle.model.specs.Reading.{among}
-use Rattle.filtering.specs.Rings.{around, Once}
+pub use Rattle.filtering.specs.Rings.{queue, Orderly}
 use Rattle.filtering.specs.declared.list.WaitingList.{WaitingList}
-
--- The records that wait, in their order.
-abbrev pub queue : WaitingList → List ℕ
-queue l = around l.ring l.head l.len
-
--- The set holds what waits, no record waits twice, and all are below 64.
-pub record Orderly (l : WaitingList) : Type 0 where
-  pub set : (i : ℕ) → has l.set.word i ≡ among i (queue l)
-  pub once : Once (queue l)
-  pub below : (i : ℕ) → among i (queue l) ≡ true → i < 64
 
 -- No record waits.
 abbrev pub Idle : WaitingList → Type 0

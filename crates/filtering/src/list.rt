@@ -1,9 +1,8 @@
-ghost use Rattle.std.specs.Prelude.{◌≡◌, ℕ, ◌<◌, true};
-ghost use Rattle.bits.specs.Bit.{has};
-ghost use Rattle.model.specs.Reading.{among};
-ghost use Rattle.filtering.specs.Rings.{around, Once, Once-prop};
+ghost use Rattle.std.specs.Prelude.{◌≡◌, ◌<◌, ◌≤◌};
+ghost use Rattle.filtering.specs.Waits.{queue, Idle, behind, Pops};
 
 use bits::Set;
+use std::marker::Model;
 
 // How many records can wait: as many as a model has at most.
 const ROOM: usize = 64;
@@ -15,15 +14,21 @@ pub struct WaitingList {
     set: Set,
     head: usize,
     len: usize,
-    ghost set_is: { (i : ℕ) → has set.word i ≡ among i (around ring head len) },
-    ghost once: { Once (around ring head len) } by { Once-prop (around ring head len) },
-    ghost below: { (i : ℕ) → among i (around ring head len) ≡ true → i < 64 },
+}
+
+impl Model for WaitingList {
+    ghost use Rattle.filtering.specs.Rings.{Ring, Orderly};
+
+    ghost Value = { Ring };
+
+    ghost view = { λ l. record { ring = l.ring; set = l.set; head = l.head; len = l.len } };
+
+    ghost invariant = { λ l. Orderly (record { ring = l.ring; set = l.set; head = l.head; len = l.len }) };
+
+    ghost inverse = { λ r. record { ring = r.ring; set = r.set; head = r.head; len = r.len } };
 }
 
 impl WaitingList {
-    ghost use Rattle.std.specs.Prelude.{◌≤◌};
-    ghost use Rattle.filtering.specs.Waits.{queue, Idle, behind, Pops};
-
     pub fn new() -> WaitingList
         ensures { Idle result }
     {

@@ -7,19 +7,20 @@ use Rattle.filtering.proofs.list.WaitingList.pop.Goals as goal
 
 pub invariant_of-self : goal.invariant_of-self
 invariant_of-self c =
-    let l = c.args.self.now in
+    let l = c.self.inside in
+    let o = c.self.invariant in
     let item = get_or l.ring (l.head % 64) 0 in
     let r = around l.ring (l.head % 64 + 1) (l.len - 1) in
     let e = around-first l.ring l.head l.len c.if-self-eq0.false in
-    let once = subst Once e l.once in
+    let once = subst Once e o.once in
     record {
-      set_is = λ i.
-          c.without-self.ensures i ∙
-          ap (λ (b : Bool). b && not (eqb i item)) (l.set_is i ∙ ap (among i) e) ∙
+      set = λ i.
+          c.without-self-inside.ensures i ∙
+          ap (λ (b : Bool). b && not (eqb i item)) (o.set i ∙ ap (among i) e) ∙
           without_first i (among i r) item (λ h. ap (λ (j : ℕ). among j r) h ∙ once.0);
       once = once.1;
-      below = λ i h. l.below i (ap (among i) e ∙ or_right (eqb i item) (among i r) h);
+      below = λ i h. o.below i (ap (among i) e ∙ or_right (eqb i item) (among i r) h);
     }
 
 pub returns : goal.returns
-returns c = let l = c.args.self.now in around-first l.ring l.head l.len c.if-self-eq0.false
+returns c = let l = c.self.inside in rw (← c.self.view_is) (around-first l.ring l.head l.len c.if-self-eq0.false)
