@@ -15,6 +15,7 @@ use stores::store::Store;
 use stores::trail::{Cell, Entry, Trail};
 use tables::table::DomainTable;
 use tables::words::WordTable;
+use trial::{Refusal, told};
 
 const CELL: Cell = Cell { value: 7, stamp: 7 };
 
@@ -24,130 +25,117 @@ const ENTRY: Entry = Entry {
     stamp: 7,
 };
 
-fn trail(
-    rt: &impl Abort,
+// One case, run on memory of the heap.
+struct Trial<'a, A> {
+    rt: &'a A,
     heap: Global,
     case: Case,
-    cells: usize,
-    entries: usize,
-    depth: usize,
-    number: u8,
-) -> Result<(), Fail> {
-    let mut lent = vec![in heap; CELL; cells]?;
-    let mut saved = vec![in heap; ENTRY; entries]?;
-    let mut store = Trail::open(lent.as_mut_slice(), saved.as_mut_slice(), cells);
-    assert!(rt; store.depth() == depth, "{case:?}: depth");
-    assert!(rt; stops_after(&mut store, depth, number), "{case:?}: marks");
-    Ok(())
 }
 
-fn copies(
-    rt: &impl Abort,
-    heap: Global,
-    case: Case,
-    cells: usize,
-    words: usize,
-    depth: usize,
-) -> Result<(), Fail> {
-    let mut lent = vec![in heap; 7u64; words]?;
-    let store = Copying::open(lent.as_mut_slice(), cells);
-    assert!(rt; store.depth() == depth, "{case:?}: depth");
-    Ok(())
-}
+impl<A: Abort> Trial<'_, A> {
+    fn trail(&self, cells: usize, entries: usize, depth: usize, number: u8) -> Result<(), Fail> {
+        let case = self.case;
+        let mut lent = vec![in self.heap; CELL; cells]?;
+        let mut saved = vec![in self.heap; ENTRY; entries]?;
+        let mut store = Trail::open(lent.as_mut_slice(), saved.as_mut_slice(), cells);
+        assert!(self.rt; store.depth() == depth, "{case:?}: depth");
+        assert!(self.rt; stops_after(&mut store, depth, number), "{case:?}: marks");
+        Ok(())
+    }
 
-// The bytes are refused.
-fn refused(
-    rt: &impl Abort,
-    case: Case,
-    bytes: &[u8],
-    number: u8,
-    place: usize,
-) -> Result<(), Fail> {
-    let mut model = Model::fresh();
-    match model.read(bytes) {
-        Ok(()) => {
-            assert!(rt; false, "{case:?}: read");
-            Ok(())
-        },
-        Err(fault) => {
-            assert!(rt; fault.number() == number, "{case:?}: number");
-            assert!(rt; fault.place() == place, "{case:?}: place");
-            Ok(())
+    fn copies(&self, cells: usize, words: usize, depth: usize) -> Result<(), Fail> {
+        let case = self.case;
+        let mut lent = vec![in self.heap; 7u64; words]?;
+        let store = Copying::open(lent.as_mut_slice(), cells);
+        assert!(self.rt; store.depth() == depth, "{case:?}: depth");
+        Ok(())
+    }
+
+    // The bytes are refused.
+    fn refused(&self, bytes: &[u8], number: u8, place: usize) -> Result<(), Fail> {
+        let case = self.case;
+        let mut model = Model::fresh();
+        let refusal = told(model.read(bytes));
+        assert!(self.rt;
+            refusal == Some(Refusal { number, place }),
+            "{case:?}: {refusal:?}"
+        );
+        Ok(())
+    }
+
+    // A trail that marks every node, a trail that recomputes from one mark, and copies: each twice, to see that a session leaves
+    // the space as it was.
+    fn on_boards<C: Claims>(&self, bytes: &[u8], claim: &C) -> Result<(), Fail> {
+        let case = self.case;
+        let heap = self.heap;
+        let mut model = Model::fresh();
+        model.read(bytes)?;
+        let n = model.variables();
+        let marks = n.saturating_add(1);
+        let mut large_cells = vec![in heap; CELL; n]?;
+        let mut large_entries = vec![in heap; ENTRY; n.saturating_mul(marks)]?;
+        let mut small_cells = vec![in heap; CELL; n]?;
+        let mut small_entries = vec![in heap; ENTRY; n]?;
+        let mut words = vec![in heap; 7u64; n.saturating_mul(marks.saturating_add(1))]?;
+        let large = Trail::open(large_cells.as_mut_slice(), large_entries.as_mut_slice(), n);
+        let small = Trail::open(small_cells.as_mut_slice(), small_entries.as_mut_slice(), n);
+        let station = Copying::open(words.as_mut_slice(), n);
+        let large = Marking::open(WordTable::open(&model, large), standard(), &model);
+        let small = Recomputing::open(WordTable::open(&model, small), standard(), &model);
+        let station = Marking::open(WordTable::open(&model, station), standard(), &model);
+        let mut large = Search::open(large, First);
+        let mut small = Search::open(small, First);
+        let mut station = Search::open(station, First);
+        for _ in 0..2u8 {
+            assert!(self.rt; in_session(claim, &mut large), "{case:?}: large");
+            assert!(self.rt; in_session(claim, &mut small), "{case:?}: small");
+            assert!(self.rt; in_session(claim, &mut station), "{case:?}: station");
         }
+        Ok(())
     }
-}
 
-// A trail that marks every node, a trail that recomputes from one mark, and copies: each twice, to see that a session leaves the
-// space as it was.
-fn on_boards<C: Claims>(
-    rt: &impl Abort,
-    heap: Global,
-    case: Case,
-    bytes: &[u8],
-    claim: &C,
-) -> Result<(), Fail> {
-    let mut model = Model::fresh();
-    model.read(bytes)?;
-    let n = model.variables();
-    let marks = n.saturating_add(1);
-    let mut large_cells = vec![in heap; CELL; n]?;
-    let mut large_entries = vec![in heap; ENTRY; n.saturating_mul(marks)]?;
-    let mut small_cells = vec![in heap; CELL; n]?;
-    let mut small_entries = vec![in heap; ENTRY; n]?;
-    let mut words = vec![in heap; 7u64; n.saturating_mul(marks.saturating_add(1))]?;
-    let large = Trail::open(large_cells.as_mut_slice(), large_entries.as_mut_slice(), n);
-    let small = Trail::open(small_cells.as_mut_slice(), small_entries.as_mut_slice(), n);
-    let station = Copying::open(words.as_mut_slice(), n);
-    let large = Marking::open(WordTable::open(&model, large), standard(), &model);
-    let small = Recomputing::open(WordTable::open(&model, small), standard(), &model);
-    let station = Marking::open(WordTable::open(&model, station), standard(), &model);
-    let mut large = Search::open(large, First);
-    let mut small = Search::open(small, First);
-    let mut station = Search::open(station, First);
-    for _ in 0..2u8 {
-        assert!(rt; in_session(claim, &mut large), "{case:?}: large");
-        assert!(rt; in_session(claim, &mut small), "{case:?}: small");
-        assert!(rt; in_session(claim, &mut station), "{case:?}: station");
-    }
-    Ok(())
-}
-
-fn runs(rt: &impl Abort, heap: Global, case: Case) -> Result<(), Fail> {
-    match claim_of(case) {
-        Claim::Trail {
-            cells,
-            entries,
-            depth,
-            number,
-        } => trail(rt, heap, case, cells, entries, depth, number),
-        Claim::Copies {
-            cells,
-            words,
-            depth,
-        } => copies(rt, heap, case, cells, words, depth),
-        Claim::Refused {
-            bytes,
-            number,
-            place,
-        } => refused(rt, case, bytes, number, place),
-        Claim::Tree {
-            bytes,
-            root,
-            plans,
-            nodes,
-        } => on_boards(rt, heap, case, bytes, &Grown { root, plans, nodes }),
-        Claim::Calls {
-            bytes,
-            budget,
-            answers,
-        } => on_boards(rt, heap, case, bytes, &Called { budget, answers }),
+    fn runs(&self) -> Result<(), Fail> {
+        match claim_of(self.case) {
+            Claim::Trail {
+                cells,
+                entries,
+                depth,
+                number,
+            } => self.trail(cells, entries, depth, number),
+            Claim::Copies {
+                cells,
+                words,
+                depth,
+            } => self.copies(cells, words, depth),
+            Claim::Refused {
+                bytes,
+                number,
+                place,
+            } => self.refused(bytes, number, place),
+            Claim::Tree {
+                bytes,
+                root,
+                plans,
+                nodes,
+            } => self.on_boards(bytes, &Grown { root, plans, nodes }),
+            Claim::Calls {
+                bytes,
+                budget,
+                answers,
+            } => self.on_boards(bytes, &Called { budget, answers }),
+        }
     }
 }
 
 #[test]
 fn every_case_runs(rt: HostRuntime) -> Result<(), Fail> {
     for case in all_cases() {
-        runs(&rt, rt.alloc(), case)?;
+        let trial = Trial {
+            rt: &rt,
+            heap: rt.alloc(),
+            case,
+        };
+        trial.runs()?;
     }
     Ok(())
 }
