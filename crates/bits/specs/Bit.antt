@@ -1,5 +1,5 @@
 -- The digits of a word in base two, and the word as a set of numbers: those places at which its digit is 1. Assumes nothing.
-use Rattle.std.specs.Prelude.{◌≡◌, ℕ, zero, suc, ◌/◌, ◌%◌, ◌<◌, Bool, true, false, cond, Some, None, Option, ◌==◌}
+use Rattle.std.specs.Prelude.{◌≡◌, ℕ, zero, suc, ◌/◌, ◌%◌, ◌<◌, Bool, true, false, cond, List, [], ◌∷◌, Some, None, Option, ◌==◌}
 
 -- the digit of n at the place v, 0 or 1
 abbrev pub bit : ℕ → ℕ → ℕ
@@ -14,6 +14,15 @@ has n v = bit n v == 1
 unfoldable pub counted : (ℕ → Bool) → ℕ → ℕ
 counted d zero = 0
 counted d (suc k) = cond (d k) (suc (counted d k)) (counted d k)
+
+-- the members of d among the n numbers from x on, from the least on
+abbrev pub rising : (ℕ → Bool) → ℕ → ℕ → List ℕ
+rising d x zero = []
+rising d x (suc n) = cond (d x) (x ∷ rising d (suc x) n) (rising d (suc x) n)
+
+-- the members of a word of 64 digits
+unfoldable pub members : ℕ → List ℕ
+members word = rising (has word) 0 64
 
 -- no number is a member of d
 abbrev pub Empty : (ℕ → Bool) → Type 0

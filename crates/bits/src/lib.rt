@@ -1,7 +1,9 @@
 #![tactic(auto)]
 
 ghost use Rattle.std.specs.Prelude.{◌≡◌, ℕ, ◌<◌, ◌≤◌, min, true, false, not, ◌&&◌, ◌||◌, ◌==◌, nat_le, nat_lt};
-ghost use Rattle.bits.specs.Bit.{has, counted, Empty, Least, Greatest};
+ghost use Rattle.std.specs.Iterator.{YieldsFirst, item_count};
+ghost use Rattle.bits.specs.Bit.{has, counted, members, Empty, Least, Greatest};
+ghost use Rattle.bits.specs.Splits.{Splits};
 
 // A set of numbers below 64: v is a member where the digit v of the word is 1.
 #[derive(Clone, Copy, PartialEq, Eq, Debug)]
@@ -111,6 +113,13 @@ impl Set {
         self.word == 0
     }
 
+    // The members, from the least on.
+    pub fn members(self) -> Members
+        ensures { result ≡ record { left = self } }
+    {
+        Members { left: self }
+    }
+
     // How many members.
     pub fn size(self) -> u32
         ensures { result ≡ counted (has self.word) 64 }
@@ -127,6 +136,14 @@ impl Set {
         Some(self.word.trailing_zeros() as u8)
     }
 
+    // The least member, and the set of the others.
+    fn split(self) -> Option<(usize, Set)>
+        ensures { Splits self.word result }
+    {
+        let least = self.least()? as usize;
+        Some((least, self.without(least)))
+    }
+
     pub fn greatest(self) -> Option<u8>
         ensures { Greatest (has self.word) result }
     {
@@ -134,6 +151,26 @@ impl Set {
             return None;
         }
         Some((63 - self.word.leading_zeros()) as u8)
+    }
+}
+
+// The members of a set that are left, from the least on.
+#[derive(Clone, Copy)]
+pub struct Members {
+    left: Set,
+}
+
+impl Iterator for Members {
+    type Item = usize;
+
+    ghost next_gives = { YieldsFirst (λ m. members m.left.word) };
+
+    ghost remaining = { item_count (λ m. members m.left.word) };
+
+    fn next(&mut self) -> Option<usize> {
+        let (least, others) = self.left.split()?;
+        self.left = others;
+        Some(least)
     }
 }
 
