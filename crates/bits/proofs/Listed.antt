@@ -77,6 +77,6 @@ pub members-at : (w k : ℕ) → k < length (members w) → (has w (get_or (memb
 unfolding members
 members-at w k l = rising-in (has w) 0 64 64 (omega arith) k l
 
-pub members-has : (w u : ℕ) → w < 2 ^ 64 → has w u ≡ true → (k : ℕ) × (k < length (members w)) × (get_or (members w) k 0 ≡ u)
+pub members-has : (w u : ℕ) → u < 64 → has w u ≡ true → (k : ℕ) × (k < length (members w)) × (get_or (members w) k 0 ≡ u)
 unfolding members
-members-has w u fits t = rising-has (has w) 0 64 u (omega arith) (let l = member_below 64 w u fits t in omega arith) t
+members-has w u l t = rising-has (has w) 0 64 u (omega arith) (omega arith) t

@@ -17,7 +17,8 @@ use Rattle.kinds.specs.Shrunk.{set_of, has_failed}
 use Rattle.kinds.proofs.Passing.{sofar-none, nothing_yet}
 use Rattle.different.specs.Different.{apart, stable, meets}
 use Rattle.different.specs.Expels.{Alone, Crowds, Barred, Expelled}
-use Rattle.different.specs.Lists.{among-at, pairs-from, pairs-to}
+use Rattle.different.specs.Lists.{pairs-from, pairs-to}
+use Rattle.kinds.specs.Listed.{among-at}
 use Rattle.different.proofs.Laws.{apart-to, apart_from}
 
 -- Of the listed variables those before the place k were looked at, but for x.

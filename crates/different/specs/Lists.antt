@@ -6,15 +6,6 @@ use Rattle.tree.proofs.Tables.{same_test}
 use Rattle.model.specs.Reading.{among}
 use Rattle.different.specs.Different.{each, pairs}
 
-pub at-among : (xs : List ℕ) (k : ℕ) → k < length xs → among (slice_index xs k) xs ≡ true
-at-among [] k l = absurd (omega arith)
-at-among (x ∷ xs) zero l = or_left (x == x) (among x xs) (eq-eqb x x refl)
-at-among (x ∷ xs) (suc k) l = or_right (slice_index xs k == x) (among (slice_index xs k) xs) (at-among xs k (omega arith))
-
-pub among-at : (xs : List ℕ) (x : ℕ) → among x xs ≡ true → (k : ℕ) × (k < length xs) × (slice_index xs k ≡ x)
-among-at [] x h = absurd (both_ways false refl h)
-among-at (y ∷ ys) x h = ⊎_elim (λ e. (0, omega arith, sym (eqb-true x y e))) (λ e. let p = among-at ys x e in (suc p.0, omega (arith, p.1), p.2)) (or_cases (x == y) (among x ys) h)
-
 each_from : (xs : List ℕ) (f : ℕ → Bool) → ((x : ℕ) → among x xs ≡ true → f x ≡ true) → each xs f ≡ true
 each_from [] f h = refl
 each_from (x ∷ xs) f h = and_from (f x) (each xs f) (h x (or_left (x == x) (among x xs) (eq-eqb x x refl))) (each_from xs f (λ y e. h y (or_right (y == x) (among y xs) e)))

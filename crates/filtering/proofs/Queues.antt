@@ -1,6 +1,6 @@
 -- The ring as a queue, and how many can wait. Assumes nothing.
 use Rattle.std.proofs.Common.{◌≡◌, ℕ, zero, suc, ◌+◌, ◌-◌, ◌%◌, ◌<◌, ◌≤◌, Bool, true, false, cond, not, ◌&&◌, ◌||◌, eqb, ◌≢◌, ◌⊎◌, List, [], ◌∷◌, ◌++◌, length, get_or, set, sym, refl, ap, ◌∙◌, ap₂, inl, inr, ⊎_elim, arith, get_or-set_other, get_or-set_same}
-use Rattle.std.proofs.lemmas.Bool.{or_cases, or_left, or_right, or_parts, or_from, cases_eq, cases_Bool, cond_both, cond-true, cond-false, eqb-true, eqb-false, eq-eqb, ne_eqb}
+use Rattle.std.proofs.lemmas.Bool.{or_cases, or_left, or_right, or_parts, or_from, cases_eq, cond_both, cond-true, cond-false, eqb-true, eqb-false, eq-eqb, ne_eqb}
 use Rattle.tree.specs.Domains.{size}
 use Rattle.model.specs.Reading.{among}
 use Rattle.filtering.specs.Rings.{Ring, around, queue, Once, Orderly}
@@ -143,34 +143,28 @@ among-behind i k r =
     or-none true = refl
     or-none false = refl
 
-pub woken-left : (R : ℕ → Bool) (k : ℕ) (q : List ℕ) (i : ℕ) → among i (woken R k q) ≡ false → (among i q ≡ false) × (i < k → R i ≡ false)
-woken-left R zero q i h = (h, λ l. absurd (omega arith))
-woken-left R (suc k) q i h =
-    let W = woken R k q in
+pub woken-end : (is : List ℕ) (i : ℕ) (q : List ℕ) → woken (is ++ (i ∷ [])) q ≡ behind (woken is q) i
+woken-end [] i q = refl
+woken-end (j ∷ is) i q = woken-end is i (behind q j)
+
+pub woken-left : (is q : List ℕ) (i : ℕ) → among i (woken is q) ≡ false → (among i q ≡ false) × (among i is ≡ false)
+woken-left [] q i h = (h, refl)
+woken-left (j ∷ is) q i h =
+    let r = woken-left is (behind q j) i h in
+    let p = or_parts (among i q) (eqb i j) (sym (among-behind i j q) ∙ r.0) in
+    (p.0, or_from (eqb i j) (among i is) p.1 r.1)
+
+pub woken_only : (is q : List ℕ) (i : ℕ) → among i (woken is q) ≡ true → (among i q ≡ true) ⊎ (among i is ≡ true)
+woken_only [] q i h = inl h
+woken_only (j ∷ is) q i h =
     ⊎_elim
-    (λ t.
-    let p = or_parts (among i W) (eqb i k) (sym (among-behind i k W) ∙ ap (among i) (sym (cond-true (R k) (behind W k) W t)) ∙ h) in
-    let r = woken-left R k q i p.0 in
-    (r.0, λ l. r.1 (let d = eqb-false i k p.1 in omega (arith, d, l))))
-    (λ f.
-    let r = woken-left R k q i (ap (among i) (sym (cond-false (R k) (behind W k) W f)) ∙ h) in
-    (r.0, λ l. ⊎_elim (λ e. ap R e ∙ f) (λ d. r.1 (omega (arith, d, l))) (cases_eq i k)))
-    (cases_Bool (R k))
+    (λ b. ⊎_elim inl (λ e. inr (or_left (eqb i j) (among i is) e)) (or_cases (among i q) (eqb i j) (sym (among-behind i j q) ∙ b)))
+    (λ r. inr (or_right (eqb i j) (among i is) r))
+    (woken_only is (behind q j) i h)
 
 behind-once : (q : List ℕ) (k : ℕ) → Once q → Once (behind q k)
 behind-once q k o = cond_both (among k q) q (q ++ (k ∷ [])) Once (λ t. o) (λ f. once-end k q o f)
 
-pub woken-once : (R : ℕ → Bool) (k : ℕ) (q : List ℕ) → Once q → Once (woken R k q)
-woken-once R zero q o = o
-woken-once R (suc k) q o = let w = woken-once R k q o in cond_both (R k) (behind (woken R k q) k) (woken R k q) Once (λ t. behind-once (woken R k q) k w) (λ f. w)
-
-pub woken_only : (R : ℕ → Bool) (k : ℕ) (q : List ℕ) (i : ℕ) → among i (woken R k q) ≡ true → (among i q ≡ true) ⊎ (i < k)
-woken_only R zero q i h = inl h
-woken_only R (suc k) q i h =
-    let W = woken R k q in
-    let more : (among i q ≡ true) ⊎ (i < k) → (among i q ≡ true) ⊎ (i < suc k) = ⊎_elim inl (λ l. inr (omega arith)) in
-    ⊎_elim
-    (λ t. ⊎_elim (λ a. more (woken_only R k q i a)) (λ e. inr (let d = eqb-true i k e in omega (arith, d)))
-    (or_cases (among i W) (eqb i k) (sym (among-behind i k W) ∙ ap (among i) (sym (cond-true (R k) (behind W k) W t)) ∙ h)))
-    (λ f. more (woken_only R k q i (ap (among i) (sym (cond-false (R k) (behind W k) W f)) ∙ h)))
-    (cases_Bool (R k))
+pub woken-once : (is q : List ℕ) → Once q → Once (woken is q)
+woken-once [] q o = o
+woken-once (j ∷ is) q o = woken-once is (behind q j) (behind-once q j o)

@@ -1,7 +1,7 @@
 -- The rounds of filtering. Assumes nothing.
 use Rattle.std.proofs.Common.{◌≡◌, ℕ, suc, ◌+◌, ◌*◌, ◌<◌, ◌≤◌, Bool, true, false, eqb, ◌≢◌, List, [], ◌∷◌, length, Ok, Option, sym, refl, ap, ◌∙◌, subst, ⊎_elim, mul-le-mul, arith}
 use Rattle.std.proofs.lemmas.Bool.{both_ways, or_left, or_right, or_from, cases_eq, cases_Bool, eq-eqb, ne_eqb}
-use Rattle.bits.specs.Bit.{has, Empty}
+use Rattle.bits.specs.Bit.{has, members, Empty}
 use Rattle.tree.specs.Tables.{Table}
 use Rattle.tree.specs.Filter.{Problem, Full, Filtered, failed, NodeOf}
 use Rattle.tree.specs.Find.{grid, total}
@@ -20,6 +20,7 @@ use Rattle.kinds.specs.Shrunk.{set_of, has_failed}
 use Rattle.filtering.specs.Rings.{queue, Once}
 use Rattle.filtering.specs.Waits.{Idle, woken}
 use Rattle.filtering.specs.Filters.{does_begin, Begins, Narrowed, FilledUp}
+use Rattle.filtering.proofs.Listing.{listed-member, not-listed}
 use Rattle.filtering.proofs.Queues.{once-few, woken-left, woken-once, woken_only}
 use Rattle.filtering.specs.declared.list.WaitingList.{WaitingList}
 use Rattle.filtering.specs.declared.filter.Start.{Start}
@@ -61,17 +62,17 @@ module _ (A : Asks) (laws : Laws A) where
   }
 
   -- what waits at first
-  pub start_mid : (s : TableState) (start : Start) (R : ℕ → Bool) (q : List ℕ) (l : WaitingList) → s.variables ≡ A.variables → s.width ≡ A.width → Bounds s
-      → ((x : ℕ) → x < s.variables → Alive s.domains x) → ((i : ℕ) → i < A.count → R i ≡ false → (A.demand i).stable s.domains ≡ true)
-      → q ≡ [] → queue l ≡ woken R A.count q → Mid A s s l 0
-  start_mid s start R q l vs ws b f settled e w =
-      let once = subst Once (sym w) (woken-once R A.count q (subst Once (sym e) tt)) in
-      let known : (i : ℕ) → among i (queue l) ≡ true → i < A.count = λ i h. ⊎_elim (λ k. absurd (both_ways (among i q) (ap (among i) e) k)) (λ k. k) (woken_only R A.count q i (ap (among i) (sym w) ∙ h)) in
+  pub start_mid : (s : TableState) (start : Start) (is q : List ℕ) (l : WaitingList) → s.variables ≡ A.variables → s.width ≡ A.width → Bounds s
+      → ((x : ℕ) → x < s.variables → Alive s.domains x) → ((i : ℕ) → i < A.count → among i is ≡ false → (A.demand i).stable s.domains ≡ true) → ((i : ℕ) → among i is ≡ true → i < A.count)
+      → q ≡ [] → queue l ≡ woken is q → Mid A s s l 0
+  start_mid s start is q l vs ws b f settled below e w =
+      let once = subst Once (sym w) (woken-once is q (subst Once (sym e) tt)) in
+      let known : (i : ℕ) → among i (queue l) ≡ true → i < A.count = λ i h. ⊎_elim (λ k. absurd (both_ways (among i q) (ap (among i) e) k)) (below i) (woken_only is q i (ap (among i) (sym w) ∙ h)) in
       record {
         once = once;
         narrowed = narrowed_none s;
         full = λ x h. f x (omega (arith, vs, h));
-        rest = λ i h n. settled i h ((woken-left R A.count q i (ap (among i) (sym w) ∙ n)).1 h);
+        rest = λ i h n. settled i h (woken-left is q i (ap (among i) (sym w) ∙ n)).1;
         known = known;
         enough = omega (arith, few-values s vs ws b, few_waiting (queue l) once known);
       }
@@ -134,24 +135,24 @@ module _ (A : Asks) (laws : Laws A) where
         changed_below x h = let g = p.shrunk.smaller x h in omega (arith, (b.within x g.0 g.1).0, vs)
 
         -- a record that was not woken names no variable that changed
-        untouched : (R : ℕ → Bool) → ((i : ℕ) → R i ≡ false → (x : ℕ) → x < A.variables → has (set_of r).word x ≡ true → A.names i x ≡ false)
-            → (i x : ℕ) → R i ≡ false → (A.demand i).names x ≡ true → has (set_of r).word x ≡ false
-        untouched R f i x n named = ⊎_elim (λ h. absurd (both_ways (A.names i x) (f i n x (changed_below x h) h) (laws.names i x named))) (λ h. h) (cases_Bool (has (set_of r).word x))
+        untouched : (is : List ℕ) → ((i : ℕ) → i < A.count → among i is ≡ false → (x : ℕ) → has (set_of r).word x ≡ true → A.names i x ≡ false)
+            → (i x : ℕ) → i < A.count → among i is ≡ false → (A.demand i).names x ≡ true → has (set_of r).word x ≡ false
+        untouched is f i x l n named = ⊎_elim (λ h. absurd (both_ways (A.names i x) (f i l n x h) (laws.names i x named))) (λ h. h) (cases_Bool (has (set_of r).word x))
 
-        pub some_mid : (w : WaitingList) (R : ℕ → Bool) → ((i : ℕ) → R i ≡ false → (x : ℕ) → x < A.variables → has (set_of r).word x ≡ true → A.names i x ≡ false)
-            → has_failed r ≡ false → queue w ≡ woken R A.count (queue m) → Mid A s u w (round + 1)
-        some_mid w R f nf wakes =
-            let once = subst Once (sym wakes) (woken-once R A.count (queue m) others-once) in
-            let known : (i : ℕ) → among i (queue w) ≡ true → i < A.count = λ i h. ⊎_elim (still_known i) (λ k. k) (woken_only R A.count (queue m) i (ap (among i) (sym wakes) ∙ h)) in
+        pub some_mid : (w : WaitingList) (is : List ℕ) → ((i : ℕ) → i < A.count → among i is ≡ false → (x : ℕ) → has (set_of r).word x ≡ true → A.names i x ≡ false) → ((i : ℕ) → among i is ≡ true → i < A.count)
+            → has_failed r ≡ false → queue w ≡ woken is (queue m) → Mid A s u w (round + 1)
+        some_mid w is f below nf wakes =
+            let once = subst Once (sym wakes) (woken-once is (queue m) others-once) in
+            let known : (i : ℕ) → among i (queue w) ≡ true → i < A.count = λ i h. ⊎_elim (still_known i) (below i) (woken_only is (queue m) i (ap (among i) (sym wakes) ∙ h)) in
             record {
               once = once;
               narrowed = narrowed_on;
               full = filled nf;
               rest = λ i h n.
-                  let k = woken-left R A.count (queue m) i (ap (among i) (sym wakes) ∙ n) in
+                  let k = woken-left is (queue m) i (ap (among i) (sym wakes) ∙ n) in
                   ⊎_elim
-                  (λ q. absurd (both_ways (has (set_of r).word some.0) (untouched R f i some.0 (k.1 h) (ap (λ (j : ℕ). (A.demand j).names some.0) q ∙ named_gone)) some.1))
-                  (λ d. (laws.keeps i h).rests u.domains t.domains (λ x v y. same_test (u.domains x v) (t.domains x v) (p.narrows.inside x v) (p.shrunk.same x v (untouched R f i x (k.1 h) y))) ∙ popped i h k.0 d)
+                  (λ q. absurd (both_ways (has (set_of r).word some.0) (untouched is f i some.0 h k.1 (ap (λ (j : ℕ). (A.demand j).names some.0) q ∙ named_gone)) some.1))
+                  (λ d. (laws.keeps i h).rests u.domains t.domains (λ x v y. same_test (u.domains x v) (t.domains x v) (p.narrows.inside x v) (p.shrunk.same x v (untouched is f i x h k.1 y))) ∙ popped i h k.0 d)
                   (cases_eq i item);
               known = known;
               enough = omega (arith, fewer, mid.enough, few_waiting (queue w) once known, shorter);
@@ -186,12 +187,13 @@ pub filled_false : (s : TableState) (b : Bool) → b ≡ false → FilledUp s (O
 filled_false s b e h = subst (λ (z : Bool). FilledUp s (Ok z)) e h
 
 -- before the first round
-pub at_first : (A : Asks) (laws : Laws A) (rs : List Record) (s : TableState) (start : Start) (R : ℕ → Bool) (k : ℕ) (before after : WaitingList) → A.names ≡ does_name rs → s.variables ≡ A.variables → s.width ≡ A.width → Bounds s
-    → ((x : ℕ) → x < s.variables → Alive s.domains x) → Begins (together A) start s.domains → ((i : ℕ) → i < A.count → R i ≡ does_begin rs start i) → k ≡ A.count
-    → Idle before → (k ≤ 64 → queue after ≡ woken R k (queue before)) → Mid A s s after 0
-at_first A laws rs s start R k before after e vs ws b f begins is ke idle wakes =
-    let w = wakes (omega (arith, ke, laws.few)) in
-    start_mid A laws s start R (queue before) after vs ws b f (λ i h n. settled A laws rs start s.domains e begins i h (sym (is i h) ∙ n)) idle.0 (w ∙ ap (λ (j : ℕ). woken R j (queue before)) ke)
+pub at_first : (A : Asks) (laws : Laws A) (rs : List Record) (s : TableState) (start : Start) (R : ℕ) (before after : WaitingList) → A.names ≡ does_name rs → s.variables ≡ A.variables → s.width ≡ A.width → Bounds s
+    → ((x : ℕ) → x < s.variables → Alive s.domains x) → Begins (together A) start s.domains → ((i : ℕ) → i < A.count → has R i ≡ does_begin rs start i) → ((i : ℕ) → has R i ≡ true → i < A.count)
+    → Idle before → queue after ≡ woken (members R) (queue before) → Mid A s s after 0
+at_first A laws rs s start R before after e vs ws b f begins is below idle wakes =
+    start_mid A laws s start (members R) (queue before) after vs ws b f
+    (λ i h n. settled A laws rs start s.domains e begins i h (sym (is i h) ∙ not-listed R i (omega (arith, h, laws.few)) n))
+    (λ i h. below i (listed-member R i h).0) idle.0 wakes
 
 -- a pass goes by the width of the table before it, which is that of the first
 pub same_width : (D : Demands) (n : ℕ) (o : Option Record) (P : Problem) (s t u : TableState) (r : Shrunk) → Narrowed P s t → Passed n (demanded D t.width o) t r u → Passed n (demanded D s.width o) t r u

@@ -38,7 +38,7 @@ FilledUp s (Ok true) = (x : ℕ) → x < s.variables → Alive s.domains x
 FilledUp s (Ok false) = (x : ℕ) × (x < s.variables) × Dead s.domains x
 FilledUp s (Err e) = ⊥
 
--- The set holds the records that name one of the variables below n of another set.
-pub record NamesSome (n : ℕ) (rs : List Record) (variables records : ℕ → Bool) : Type 0 where
-  pub some : (i : ℕ) → records i ≡ true → (x : ℕ) × (x < n) × (variables x ≡ true) × (does_name rs i x ≡ true)
-  pub none : (i : ℕ) → records i ≡ false → (x : ℕ) → x < n → variables x ≡ true → does_name rs i x ≡ false
+-- The set holds the records that name one of the variables of another set.
+pub record NamesSome (rs : List Record) (variables records : ℕ → Bool) : Type 0 where
+  pub some : (i : ℕ) → records i ≡ true → (x : ℕ) × (variables x ≡ true) × (does_name rs i x ≡ true)
+  pub none : (i : ℕ) → records i ≡ false → (x : ℕ) → variables x ≡ true → does_name rs i x ≡ false

@@ -1,5 +1,5 @@
 -- A ring of 64 places as a queue. Assumes nothing.
-use Rattle.std.specs.Prelude.{◌≡◌, ℕ, zero, suc, ◌%◌, ◌<◌, Bool, true, false, List, [], ◌∷◌, slice_index}
+use Rattle.std.specs.Prelude.{◌≡◌, ℕ, zero, suc, ◌%◌, ◌<◌, true, false, List, [], ◌∷◌, slice_index}
 use Rattle.bits.specs.Bit.{has}
 use Rattle.bits.specs.declared.Set.{Set}
 use Rattle.model.specs.Reading.{among}

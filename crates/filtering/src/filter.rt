@@ -1,5 +1,5 @@
 ghost use Rattle.std.specs.Prelude.{◌≡◌, ℕ, ◌<◌, ◌≤◌, true, false, length};
-ghost use Rattle.bits.specs.Bit.{has};
+ghost use Rattle.bits.specs.Bit.{has, members};
 ghost use Rattle.stores.specs.Rows.{Keeps};
 ghost use Rattle.model.specs.Meaning.{means as model-means, windows, records};
 ghost use Rattle.kinds.specs.Problems.{problem};
@@ -27,7 +27,8 @@ pub enum Start {
 
 // The records that wait at first.
 fn first(model: &Model, start: Start) -> Set
-    ensures { (i : ℕ) → i < length (records model.now) → has result.word i ≡ does_begin (records model.now) start i }
+    ensures begins { (i : ℕ) → i < length (records model.now) → has result.word i ≡ does_begin (records model.now) start i }
+    ensures below { (i : ℕ) → has result.word i ≡ true → i < length (records model.now) }
 {
     match start {
         Start::All => Set::span(0, model.records()),
@@ -37,25 +38,21 @@ fn first(model: &Model, start: Start) -> Set
 
 // The records that name one of the variables.
 fn naming_some(model: &Model, variables: Set) -> Set
-    ensures { NamesSome (length (windows model.now)) (records model.now) (has variables.word) (has result.word) }
+    ensures { NamesSome (records model.now) (has variables.word) (has result.word) }
 {
     let mut found = Set::empty();
-    for x in 0..model.variables() {
-        if variables.has(x) {
-            found = found.union(model.naming(x));
-        }
+    for x in variables.members() {
+        found = found.union(model.naming(x));
     }
     found
 }
 
-// Lets the records of the set below count wait, in the order of their numbers.
-fn wake(list: &mut WaitingList, set: Set, count: usize)
-    ensures { count ≤ 64 → queue list.new ≡ woken (has set.word) count (queue list.old) }
+// Lets the records of the set wait, in the order of their numbers.
+fn wake(list: &mut WaitingList, set: Set)
+    ensures { queue list.new ≡ woken (members set.word) (queue list.old) }
 {
-    for i in 0..count {
-        if set.has(i) {
-            list.push(i);
-        }
+    for i in set.members() {
+        list.push(i);
     }
 }
 
@@ -84,8 +81,7 @@ fn run<T: DomainTable, K: Kinds>(
     if !filled(table)? {
         return Ok(false);
     }
-    let count = model.records();
-    wake(list, first(model, start), count);
+    wake(list, first(model, start));
     for _round in 0..ROUNDS {
         let Some(item) = list.pop() else {
             return Ok(true);
@@ -95,7 +91,7 @@ fn run<T: DomainTable, K: Kinds>(
             Shrunk::Failed(_) => return Ok(false),
         };
         if !shrunk.is_empty() {
-            wake(list, naming_some(model, shrunk), count);
+            wake(list, naming_some(model, shrunk));
         }
     }
     Ok(false)

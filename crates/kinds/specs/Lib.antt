@@ -1,5 +1,6 @@
 pub mod Demands
 pub mod Laws
+pub mod Listed
 pub mod Problems
 pub mod Passes
 pub mod Shrunk

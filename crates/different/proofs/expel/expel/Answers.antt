@@ -6,7 +6,7 @@ use Rattle.kinds.specs.Demands.{Demand}
 use Rattle.tables.specs.States.{TableState}
 use Rattle.different.specs.Expels.{Lists, Barred}
 use Rattle.kinds.specs.Sofar.{Sofar}
-use Rattle.different.specs.Lists.{at-among, among-at}
+use Rattle.kinds.specs.Listed.{at-among, among-at}
 use Rattle.different.proofs.Steps.{Going, going_none, going_skip, going_drop, others_live}
 use Rattle.kinds.proofs.Passing.{sofar-drop, drop-none}
 use Rattle.different.proofs.expel.expel.Goals as goal

@@ -10,7 +10,7 @@ use Rattle.kinds.specs.Passes.{Alive}
 use Rattle.kinds.proofs.Passing.{passed_still, passed_empty, passed_full}
 use Rattle.different.specs.Different.{stable, meets}
 use Rattle.different.specs.Expels.{Lists}
-use Rattle.different.specs.Lists.{at-among, among-at}
+use Rattle.kinds.specs.Listed.{at-among, among-at}
 use Rattle.different.proofs.Steps.{Main, main_none, main_skip, main_expel, barred, all_clear, crowds_some, crowds_none, seen_none, seen_more}
 use Rattle.different.proofs.expel.separate.Goals as goal
 use Rattle.different.proofs.expel.separate.Goals.{in-Some+in_ok-found+in-Live, in_default}

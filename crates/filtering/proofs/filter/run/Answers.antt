@@ -1,13 +1,13 @@
-use Rattle.std.proofs.Common.{ℕ, ◌+◌, ◌<◌, length, sym, refl, ap, ◌∙◌, subst, arith}
+use Rattle.std.proofs.Common.{◌+◌, ◌<◌, length, sym, refl, ap, ◌∙◌, subst, arith}
 use Rattle.std.specs.List.{slice_get}
-use Rattle.bits.specs.Bit.{has}
+use Rattle.bits.specs.Bit.{members}
 use Rattle.model.specs.Meaning.{means as model-means, windows, records}
 use Rattle.tables.specs.States.{TableState}
 use Rattle.kinds.specs.declared.shrunk.Shrunk.TheVariants.{Live, Failed}
 use Rattle.kinds.specs.Problems.{asks, together}
 use Rattle.kinds.proofs.Validity.{model_laws, demanded-below}
-use Rattle.filtering.specs.Waits.{queue, woken}
 use Rattle.filtering.specs.declared.list.WaitingList.{WaitingList}
+use Rattle.filtering.proofs.Listing.{listed-member, not-listed, does_name-below}
 use Rattle.filtering.proofs.Rounds.{Mid, at_first, same_width, narrowed_none, narrowed_on, none_mid, some_mid, none-fits, done, filled_true, filled_false}
 use Rattle.filtering.proofs.filter.run.Goals as goal
 use Rattle.filtering.proofs.filter.run.Goals.{then-not-is_empty, else-not-is_empty}
@@ -38,7 +38,7 @@ returns-in_default g c = λ idle sd.
     let full = filled_true s c.in_ok-filled.field-0 c.if-not-branch.false (c.in_ok-filled.ensures sd) in
     let inv = c.loop-round.invariant sd in (
       λ vs b.
-          let mid0 = at_first A laws (records m) s c.args.start (has c.first.result.word) c.records-count.result c.args.list.now c.wake.new.list refl vs refl (g.T.DomainTable.bounded c.args.table.now sd) full b c.first.ensures c.records-count.ensures idle c.wake.ensures in
+          let mid0 = at_first A laws (records m) s c.args.start c.first.result.word c.args.list.now c.wake.new.list refl vs refl (g.T.DomainTable.bounded c.args.table.now sd) full b c.first.ensures.begins c.first.ensures.below idle c.wake.ensures in
           let mid = inv.0 vs mid0 in
           (mid.narrowed, done A laws s t c.loop-round.list c.loop-round._round mid (c.in_default.ensures).0),
       inv.1,
@@ -64,7 +64,7 @@ returns-in-Failed g c = λ idle sd.
     let r = Failed c.in-Failed.field-0 in
     let did = (rw c.in-Failed.is at c.in_ok-shrunk.ensures) inv.1 in (
       λ vs b.
-          let mid0 = at_first A laws (records m) s c.args.start (has c.first.result.word) c.records-count.result c.args.list.now c.wake.new.list refl vs refl (g.T.DomainTable.bounded c.args.table.now sd) full b c.first.ensures c.records-count.ensures idle c.wake.ensures in
+          let mid0 = at_first A laws (records m) s c.args.start c.first.result.word c.args.list.now c.wake.new.list refl vs refl (g.T.DomainTable.bounded c.args.table.now sd) full b c.first.ensures.begins c.first.ensures.below idle c.wake.ensures in
           let mid = inv.0 vs mid0 in
           let pops = c.in-Some.ensures in
           let p = same_width D (length (windows m)) (slice_get (records m) item) (together A) s t u r mid.narrowed did.0 in
@@ -99,15 +99,15 @@ loop-round-preserved g c = λ sd.
           let Goal : WaitingList → Type 0 = λ z. Mid A s u z (round + 1) in
           elim c.if-not-is_empty.branch [
             | then-not-is_empty w ↦
-                let count = c.records-count.result in
                 let names = w.naming_some.ensures in
-                let woke = w.wake-then-not-is_empty.ensures (omega (arith, c.records-count.ensures, laws.few)) in
-                let R = has w.naming_some.result.word in
+                let R = w.naming_some.result.word in
                 subst Goal (sym w.list-is)
                 (some_mid A laws s t l k round item mid pops u r p
                 (ap (λ (z : TableState). z.variables) mid.narrowed.others ∙ vs) (ap (λ (z : TableState). z.width) mid.narrowed.others) bounds (c.is_empty.ensures.some w.if-not-is_empty.true)
-                w.wake-then-not-is_empty.new.list R names.none refl
-                (woke ∙ ap (λ (j : ℕ). woken R j (queue k)) c.records-count.ensures))
+                w.wake-then-not-is_empty.new.list (members R)
+                (λ i h n. names.none i (not-listed R i (omega (arith, h, laws.few)) n))
+                (λ i h. let n = names.some i (listed-member R i h).0 in does_name-below (records m) i n.0 n.2)
+                refl w.wake-then-not-is_empty.ensures)
             | else-not-is_empty w ↦
                 subst Goal (sym w.list-is) (none_mid A laws s t l k round item mid pops u r p (c.is_empty.ensures.none w.if-not-is_empty.false) refl)
           ],
@@ -123,7 +123,7 @@ returns g c = λ idle sd.
     let full = filled_true s c.in_ok-filled.field-0 c.if-not-branch.false (c.in_ok-filled.ensures sd) in
     let inv = c.loop-round.invariant sd in (
       λ vs b.
-          let mid0 = at_first A laws (records m) s c.args.start (has c.first.result.word) c.records-count.result c.args.list.now c.wake.new.list refl vs refl (g.T.DomainTable.bounded c.args.table.now sd) full b c.first.ensures c.records-count.ensures idle c.wake.ensures in
+          let mid0 = at_first A laws (records m) s c.args.start c.first.result.word c.args.list.now c.wake.new.list refl vs refl (g.T.DomainTable.bounded c.args.table.now sd) full b c.first.ensures.begins c.first.ensures.below idle c.wake.ensures in
           absurd (omega (arith, (inv.0 vs mid0).enough, c.loop-round-test.false)),
       inv.1,
     )

@@ -1,31 +1,24 @@
-use Rattle.std.proofs.Common.{◌≡◌, ℕ, suc, ◌+◌, Bool, List, sym, ap, ◌∙◌, subst, arith}
-use Rattle.std.proofs.lemmas.Bool.{cond-true, cond-false}
-use Rattle.bits.specs.Bit.{has}
+use Rattle.std.proofs.Common.{ℕ, List, length, sym, ap, ◌∙◌}
+use Rattle.std.proofs.lemmas.Iterator.Consumers.{YieldsList-from_first, YieldsList-turn, YieldsList-end}
+use Rattle.bits.specs.Bit.{members}
+use Rattle.bits.specs.declared.Members.{Members}
 use Rattle.filtering.specs.Waits.{queue, behind, woken}
-use Rattle.filtering.specs.declared.list.WaitingList.{WaitingList}
+use Rattle.filtering.proofs.Listing.{item-below, map-same}
+use Rattle.filtering.proofs.Queues.{woken-end}
 use Rattle.filtering.proofs.filter.wake.Goals as goal
-use Rattle.filtering.proofs.filter.wake.Goals.{then-has, else-has}
 
 pub loop-i-preserved : goal.loop-i-preserved
-loop-i-preserved c = λ few.
-    let i = c.loop-i.i in
-    let q = queue c.args.list.now in
-    let R : ℕ → Bool = has c.args.set.word in
-    let W = woken R i q in
-    let inv = c.loop-i.invariant few in
-    let next : i + 1 ≡ suc i = omega arith in
-    let Goal : WaitingList → Type 0 = λ l. queue l ≡ woken R (i + 1) q in
-    elim c.if-has.branch [
-      | then-has w ↦
-          let did = w.push.ensures.waits (omega (arith, few, c.loop-i-test.true)) in
-          subst Goal (sym w.list-is)
-          (did ∙ ap (λ (z : List ℕ). behind z i) inv ∙ sym (cond-true (R i) (behind W i) W (sym c.has.ensures ∙ w.if-has.true)) ∙ ap (λ (k : ℕ). woken R k q) (sym next))
-      | else-has w ↦
-          subst Goal (sym w.list-is)
-          (inv ∙ sym (cond-false (R i) (behind W i) W (sym c.has.ensures ∙ w.if-has.false)) ∙ ap (λ (k : ℕ). woken R k q) (sym next))
-    ]
+loop-i-preserved c =
+    let e = ap (λ (m : Members). members m.left.word) (c.into_iter-i-iterator.ensures.into_iter_gives ∙ c.members-i-items.ensures) in
+    let y = YieldsList-from_first (λ (x : ℕ). x) (λ (m : Members). members m.left.word) (members c.args.set.word) e in
+    let t = YieldsList-turn y c.loop-i.yielded _ c.loop-i.yielded_by _ _ c.in-Some.i c.in-Some.is c.next.ensures.steps in
+    c.push.ensures.waits (item-below c.args.set.word (length c.loop-i.yielded) c.in-Some.i t).0 ∙
+    ap (λ (q : List ℕ). behind q c.in-Some.i) c.loop-i.invariant ∙
+    sym (woken-end c.loop-i.yielded c.in-Some.i (queue c.args.list.now))
 
 pub returns : goal.returns
-returns c = λ few.
-    let e : c.loop-i.i ≡ c.args.count = omega (arith, c.loop-i-test.false, c.loop-i.auto.i-end) in
-    c.loop-i.invariant few ∙ ap (λ (k : ℕ). woken (has c.args.set.word) k (queue c.args.list.now)) e
+returns c =
+    let e = ap (λ (m : Members). members m.left.word) (c.into_iter-i-iterator.ensures.into_iter_gives ∙ c.members-i-items.ensures) in
+    let y = YieldsList-from_first (λ (x : ℕ). x) (λ (m : Members). members m.left.word) (members c.args.set.word) e in
+    let d = YieldsList-end y c.loop-i.yielded _ c.loop-i.yielded_by _ _ c.in-None.is c.next.ensures.steps in
+    c.loop-i.invariant ∙ ap (λ (is : List ℕ). woken is (queue c.args.list.now)) (sym (map-same c.loop-i.yielded) ∙ d.0)

@@ -1,7 +1,7 @@
 use Rattle.std.proofs.Common.{◌≡◌, ℕ, ◌+◌, ◌%◌, ◌<◌, Bool, false, ◌||◌, eqb, List, [], ◌∷◌, ◌++◌, length, set, sym, ap, ◌∙◌, subst, ⊎_elim, arith, rules}
 use Rattle.std.proofs.lemmas.Bool.{cond-false, or_cases, eqb-true}
 use Rattle.model.specs.Reading.{among}
-use Rattle.filtering.specs.Rings.{Ring, around, queue, Once}
+use Rattle.filtering.specs.Rings.{around, Once}
 use Rattle.filtering.proofs.Queues.{around-put, among-end, once-end, room}
 use Rattle.filtering.proofs.list.WaitingList.push.Goals as goal
 
