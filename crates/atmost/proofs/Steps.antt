@@ -19,6 +19,7 @@ use Rattle.kinds.specs.declared.shrunk.Shrunk.{Shrunk}
 use Rattle.kinds.specs.declared.shrunk.Shrunk.TheVariants.{Live, Failed}
 use Rattle.kinds.specs.Shrunk.{set_of, has_failed}
 use Rattle.kinds.proofs.Passing.{sofar-none, nothing_yet}
+use Rattle.atmost.specs.Laws.{term-listed}
 use Rattle.atmost.specs.Linear.{low, lows, term, others, listed, all_within, stable, meets}
 use Rattle.atmost.specs.Trims.{End, Barred, Trimmed}
 use Rattle.atmost.specs.Ends.{mul-up, mul_down, lows_split}
@@ -224,3 +225,19 @@ module _ (n : ℕ) (ts : List Term) (b : ℤ) (s : TableState) where
       → all ≡ lows s.width s.domains ts → part ≡ low u.width (u.domains (term ts k).variable) (term ts k).coefficient → room ≡ b -ℤ (all -ℤ part) → Room ts b s k u room
   room_of k set u all part room m e f r =
       r ∙ ap₂ (λ (x y : ℤ). b -ℤ (x -ℤ y)) e (f ∙ ap (λ (w : ℕ). low w (u.domains (term ts k).variable) (term ts k).coefficient) (ap (λ (z : TableState). z.width) m.sofar.narrows.others))
+
+-- what the trimming of the term at k may assume
+pub record Trimmable (n : ℕ) (A : Demand) (s : TableState) (t : Term) (room : ℤ) (set : Set) (u : TableState) : Type 0 where
+  pub names : A.names t.variable ≡ true
+  pub there : t.variable < u.variables
+  pub barred : Barred n A s t room
+  pub sofar : Sofar n A s set u
+
+pub trimmable : (n : ℕ) (ts : List Term) (b : ℤ) (s : TableState) (k : ℕ) (set : Set) (u : TableState) (room : ℤ) → Bounds s → Bounds u → k < length ts → ((x : ℕ) → listed ts x ≡ true → x < n)
+    → Main n ts b s k set u → Alive u.domains (term ts k).variable → Room ts b s k u room → Trimmable n (demand_of stable meets s.width (at_most b ts)) s (term ts k) room set u
+trimmable n ts b s k set u room bs bu l small m alive r = record {
+  names = term-listed ts k l;
+  there = (bu.within (term ts k).variable alive.0 alive.1).0;
+  barred = room_barred n ts b s k set u room bs l small m alive r;
+  sofar = m.sofar;
+}

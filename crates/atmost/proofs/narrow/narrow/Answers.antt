@@ -1,4 +1,4 @@
-use Rattle.std.proofs.Common.{◌+◌, true, false, ℤ, sym, refl, subst, w32, to_z, of_z}
+use Rattle.std.proofs.Common.{◌+◌, ℤ, sym, refl, subst, w32, to_z, of_z}
 use Rattle.std.proofs.lemmas.Int.{to_z-of_z}
 use Rattle.model.specs.Values.{at_most}
 use Rattle.kinds.specs.declared.shrunk.Shrunk.TheVariants.{Live, Failed}
@@ -6,7 +6,7 @@ use Rattle.kinds.specs.Demands.{demand_of}
 use Rattle.atmost.specs.Linear.{term, stable, meets}
 use Rattle.atmost.specs.Laws.{term-listed}
 use Rattle.atmost.proofs.Parts.{rest_fits, room_fits, room_is}
-use Rattle.atmost.proofs.Steps.{Main, main_none, main_trim, main_stable, room_barred, room_of}
+use Rattle.atmost.proofs.Steps.{Main, main_none, main_trim, main_stable, room_of, trimmable}
 use Rattle.kinds.proofs.Passing.{not_both, passed_still, passed_empty, passed_full}
 use Rattle.atmost.proofs.narrow.narrow.Goals as goal
 
@@ -58,8 +58,8 @@ returns-in_err-found g c = λ sd.
       λ n small.
           let m = subst (λ (y : ℤ). Main n ts y s k set u) (to_z-of_z w32 b c.ranges.bound) (inv.0 n small whole.0) in
           let room = room_of n ts b s k set u total part _ m whole.1 own.1 is in
-          let bar = room_barred n ts b s k set u _ bs l small m own.0 room in
-          absurd (did.0 n A s (term-listed ts k l) (bu.within (term ts k).variable own.0.0 own.0.1).0 bar m.sofar),
+          let t = trimmable n ts b s k set u _ bs bu l small m own.0 room in
+          absurd (did.0 n A s t.names t.there t.barred t.sofar),
       did.1,
     )
 
@@ -86,8 +86,8 @@ returns-in-Failed g c = λ sd.
       λ n small.
           let m = subst (λ (y : ℤ). Main n ts y s k set u) (to_z-of_z w32 b c.ranges.bound) (inv.0 n small whole.0) in
           let room = room_of n ts b s k set u total part _ m whole.1 own.1 is in
-          let bar = room_barred n ts b s k set u _ bs l small m own.0 room in
-          let e = did.0 n A s (term-listed ts k l) (bu.within (term ts k).variable own.0.0 own.0.1).0 bar m.sofar in
+          let t = trimmable n ts b s k set u _ bs bu l small m own.0 room in
+          let e = did.0 n A s t.names t.there t.barred t.sofar in
           passed_empty n A s (Failed c.in-Failed.found) z (term ts k).variable e.sofar whole.0 refl (term-listed ts k l) (e.empty refl) (λ y ay d. e.apart y d (m.full y (whole.0 y ay))),
       did.1,
     )
@@ -116,8 +116,8 @@ loop-term-preserved g c = λ sd.
       λ n small live.
           let m = subst (λ (y : ℤ). Main n ts y s k set u) (to_z-of_z w32 b c.ranges.bound) (inv.0 n small live) in
           let room = room_of n ts b s k set u total part _ m whole.1 own.1 is in
-          let bar = room_barred n ts b s k set u _ bs l small m own.0 room in
-          let e = did.0 n A s (term-listed ts k l) (bu.within (term ts k).variable own.0.0 own.0.1).0 bar m.sofar in
+          let t = trimmable n ts b s k set u _ bs bu l small m own.0 room in
+          let e = did.0 n A s t.names t.there t.barred t.sofar in
           subst (λ (y : ℤ). Main n ts y s (k + 1) c.in-Live.found z) (sym (to_z-of_z w32 b c.ranges.bound)) (main_trim n ts b s k set u _ r z l m room e refl),
       did.1,
     )

@@ -4,7 +4,7 @@ use Rattle.atmost.specs.Linear.{term, lows, listed}
 use Rattle.atmost.specs.Trims.{SmallSum}
 use Rattle.model.specs.declared.values.Term.{Term}
 use Rattle.atmost.specs.Laws.{term-listed}
-use Rattle.atmost.proofs.Parts.{none-some, plus, small-fits, small_more, sum_fits, some_same, lows_more, listed_more, take_whole}
+use Rattle.atmost.proofs.Parts.{plus, small-fits, small_more, sum_fits, some_same, lows_more, listed_more, take_whole}
 use Rattle.atmost.proofs.narrow.total.Goals as goal
 
 pub returns-in_err-sum-clause-value : goal.returns-in_err-sum-clause-value
