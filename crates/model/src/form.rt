@@ -58,12 +58,8 @@ impl RecordKind {
     pub(crate) fn length(self, count: u8) -> usize
         ensures { result ≡ (shape self).before + (shape self).each * count }
     {
-        let count = count as usize;
-        match self {
-            RecordKind::Windows => 1 + 2 * count,
-            RecordKind::AtMost => 5 + 3 * count,
-            RecordKind::Different => 1 + count,
-        }
+        let shape = self.shape();
+        shape.before + shape.each * count as usize
     }
 
     // Whether a record of this kind may not stand here: windows come first, and nowhere else.
@@ -72,8 +68,7 @@ impl RecordKind {
     {
         match self {
             RecordKind::Windows => !first,
-            RecordKind::AtMost => first,
-            RecordKind::Different => first,
+            RecordKind::AtMost | RecordKind::Different => first,
         }
     }
 }
