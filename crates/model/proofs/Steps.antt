@@ -1,12 +1,16 @@
 -- A record that is there as a whole: which of the later rows it breaks, or what is read with it.
-use Rattle.std.proofs.Common.{◌≡◌, ℕ, ◌+◌, ◌*◌, ◌<◌, ◌≤◌, Bool, true, false, ◌||◌, ltb, leb, ◌⊎◌, List, length, Some, None, refl, ap, ◌∙◌, subst, ⊎_elim, arith}
+use Rattle.std.proofs.Common.{◌≡◌, ℕ, ◌+◌, ◌*◌, ◌<◌, ◌≤◌, Bool, true, false, ◌||◌, ltb, leb, ◌⊎◌, List, length, take, Some, None, sym, refl, ap, ◌∙◌, ap₂, subst, ⊎_elim, arith}
 use Rattle.std.proofs.lemmas.Bool.{cond-true, cond-false, le-ltb, lt-ltb, le-leb, lt-leb, or_left, or_right, or_from, not_from_false, not_from_true, true≢false}
 use Rattle.model.specs.declared.form.RecordKind.{RecordKind}
 use Rattle.model.specs.declared.form.RecordKind.TheVariants.{Windows, AtMost, Different}
 use Rattle.model.specs.Kinds.{shape}
 use Rattle.model.specs.Values.{Value, entries}
-use Rattle.model.specs.Reading.{count, extent, entry_bytes, windows_in, variables_in, do_windows_fit, is_named_once, is_crowded, is_bad_window, is_bad_variable, rows, first_broken, extended, broken, more, by_rows, step}
-use Rattle.model.specs.Scans.{Whole}
+use Rattle.model.specs.Reading.{count, extent, entry_bytes, entries_in, window_at, variable_at, windows_in, variables_in, do_windows_fit, is_named_once, is_crowded, is_bad_window, is_bad_variable, rows, first_broken, extended, broken, more, by_rows, step}
+use Rattle.std.proofs.lemmas.List.{length-drop}
+use Rattle.model.specs.declared.entries.Entries.{Entries}
+use Rattle.model.specs.Fronts.{ReadsFront, window_front, variable_front}
+use Rattle.model.specs.Scans.{Whole, AreEntriesOf, read_by, named_in}
+use Rattle.model.proofs.Fronts.{entries-cut}
 use Rattle.model.proofs.Layouts.{fitting}
 use Rattle.model.proofs.Heads.{known_step}
 use Rattle.model.proofs.Rows.{none_broken}
@@ -80,3 +84,22 @@ pub each-some : (k : RecordKind) → (1 ≤ (shape k).each) × (1 ≤ (shape k).
 each-some Windows = (omega arith, omega arith)
 each-some AtMost = (omega arith, omega arith)
 each-some Different = (omega arith, omega arith)
+
+-- the entries, as the rows read them
+pub entries-are : {A : Type 0} (f : List ℕ → A) (k : RecordKind) (left : List ℕ) (e : Entries) → ReadsFront e.each f → AreEntriesOf k left e → read_by f e ≡ entries_in f (shape k).each (count left) (entry_bytes k left)
+entries-are f k left e front a =
+    let n : (shape k).each * count left ≡ e.each * count left = ap (λ (i : ℕ). i * count left) (sym a.each) in
+    ap₂ (λ (j : ℕ) (bs : List ℕ). entries_in f e.each j bs) a.number a.bytes
+    ∙ ap (λ (i : ℕ). entries_in f e.each (count left) (take i (entry_bytes k left))) n
+    ∙ entries-cut f e.each e.some front (count left) (entry_bytes k left) (omega (arith, a.within, length-drop (4 + (shape k).before) left))
+    ∙ ap (λ (i : ℕ). entries_in f i (count left) (entry_bytes k left)) a.each
+
+-- the variables that the record names
+pub names_are : (k : RecordKind) (left : List ℕ) (e : Entries) → AreEntriesOf k left e → named_in e ≡ variables_in (shape k).each (count left) (entry_bytes k left)
+names_are k left e = entries-are variable_at k left e (variable_front e.each e.some)
+
+-- the windows, as they are read
+pub windows_are : (left : List ℕ) (k : RecordKind) (e : Entries) → Whole true left k → AreEntriesOf k left e → read_by window_at e ≡ windows_in (count left) (entry_bytes Windows left)
+windows_are left Windows e w a = entries-are window_at Windows left e (λ xs ys l. window_front xs ys (l ∙ a.each)) a
+windows_are left AtMost e w a = absurd (true≢false w.placed)
+windows_are left Different e w a = absurd (true≢false w.placed)
