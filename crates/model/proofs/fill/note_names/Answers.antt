@@ -1,10 +1,8 @@
-use Rattle.std.proofs.Common.{◌≡◌, ℕ, ◌<◌, ◌||◌, eqb, List, ◌∷◌, length, get_or, set, sym, ap, ◌∙◌, subst, arith}
+use Rattle.std.proofs.Common.{◌≡◌, ℕ, ◌<◌, List, ◌∷◌, length, get_or, sym, ap, ◌∙◌, subst, arith}
 use Rattle.std.specs.List.{AllByRecursion}
 use Rattle.std.specs.Slice.Iter.{chunks_exact_rest}
-use Rattle.bits.specs.Bit.{has}
 use Rattle.bits.specs.declared.Set.{Set}
 use Rattle.model.specs.Reading.{variables_in}
-use Rattle.model.specs.Drafts.{none as no-record}
 use Rattle.model.proofs.Fronts.{next_variable, none}
 use Rattle.model.proofs.Filling.{noted, noted-next, noted-none}
 use Rattle.model.proofs.fill.note_names.Goals as goal

@@ -1,4 +1,4 @@
-use Rattle.std.proofs.Common.{List, ap, ◌∙◌, arith, w32, to_z, of_z}
+use Rattle.std.proofs.Common.{List, ap, ◌∙◌, arith, w32}
 use Rattle.std.proofs.lemmas.Int.{to_z-of_z}
 use Rattle.model.specs.Values.{Record}
 use Rattle.model.proofs.Drafting.{added, added_held, sum_adds, variables-below}

@@ -1,6 +1,5 @@
-use Rattle.std.proofs.Common.{◌≡◌, ℕ, ◌+◌, ◌<◌, ◌≤◌, List, length, sym, refl, ap, ◌∙◌, ap₂, arith}
-use Rattle.model.specs.Values.{entries}
-use Rattle.model.specs.Reading.{count, is_named_once, more}
+use Rattle.std.proofs.Common.{ℕ, ◌+◌, List, sym, refl, ap, ◌∙◌, ap₂, arith}
+use Rattle.model.specs.Reading.{is_named_once, more}
 use Rattle.model.specs.Drafted.{drafted}
 use Rattle.model.proofs.Drafting.{drafted-records}
 use Rattle.model.proofs.Steps.{variable-step, record_step, names_are}

@@ -1,13 +1,10 @@
-use Rattle.std.proofs.Common.{◌≡◌, ◌+◌, true, [], ◌++◌, List, length, sym, refl, ap, ◌∙◌, arith}
+use Rattle.std.proofs.Common.{◌≡◌, true, [], ◌++◌, List, length, sym, refl, ap, ◌∙◌, arith}
 use Rattle.std.proofs.lemmas.List.{length-append}
 use Rattle.model.specs.declared.values.Window.{Window}
-use Rattle.model.specs.declared.form.RecordKind.{RecordKind}
 use Rattle.model.specs.declared.form.RecordKind.TheVariants.{Windows}
-use Rattle.model.specs.declared.entries.Entries.{Entries}
-use Rattle.model.specs.Fronts.{ReadsFront, window_front}
 use Rattle.model.specs.Reading.{more, window_at, windows_in, count, entry_bytes, do_windows_fit}
 use Rattle.model.specs.Drafted.{drafted}
-use Rattle.model.specs.Scans.{Whole, AreEntriesOf, read_by}
+use Rattle.model.specs.Scans.{read_by}
 use Rattle.model.proofs.EntryBytes.{length-entries}
 use Rattle.model.proofs.Steps.{windows_are, windows-whole, windows-step, window_step, whole-size}
 use Rattle.model.proofs.read.read_windows.Goals as goal

@@ -1,8 +1,8 @@
 use Rattle.std.proofs.Common.{◌≡◌, ℕ, ◌&&◌, List, get_or, sym, ap, ◌∙◌, arith, rules}
 use Rattle.std.specs.Slice.Iter.{chunks_exact_rest}
 use Rattle.bits.specs.Bit.{has}
-use Rattle.model.specs.Reading.{variable_at, variables_in, is_named_once}
-use Rattle.model.proofs.Fronts.{Next, next_variable, none}
+use Rattle.model.specs.Reading.{variables_in, is_named_once}
+use Rattle.model.proofs.Fronts.{next_variable, none}
 use Rattle.model.proofs.Scanning.{is_fresh, named-next, named_beyond, named_again, named_start}
 use Rattle.model.proofs.scan.named_once.Goals as goal
 use Rattle.model.proofs.scan.named_once.Goals.{then-x-variables-via-then-x-variables, then-x-variables-via-else-x-variables+then-has}

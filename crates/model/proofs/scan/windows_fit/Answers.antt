@@ -1,4 +1,4 @@
-use Rattle.std.proofs.Common.{ℕ, ◌<◌, ◌≤◌, ◌⊎◌, get_or, sym, ap, ◌∙◌, ⊎_elim, arith, rules}
+use Rattle.std.proofs.Common.{ℕ, ◌<◌, ◌≤◌, ◌⊎◌, sym, ap, ◌∙◌, ⊎_elim, arith, rules}
 use Rattle.std.specs.Slice.Iter.{chunks_exact_rest}
 use Rattle.model.specs.Fronts.{window_front}
 use Rattle.model.specs.Reading.{entries_in, window_at, windows_in, do_windows_fit}
