@@ -8,7 +8,7 @@ use Rattle.model.specs.Values.{Value}
 use Rattle.model.specs.Reading.{word, long, count, body_length, extent, is_misplaced, is_misfit, rows, first_broken, broken, by_rows, by_kind, step}
 
 -- the number further on
-word-later : (bs : List ℕ) (at k : ℕ) → word (drop at bs) k ≡ word bs (at + k)
+pub word-later : (bs : List ℕ) (at k : ℕ) → word (drop at bs) k ≡ word bs (at + k)
 word-later bs at k =
     let e : at + (k + 1) ≡ at + k + 1 = omega arith in
     ap₂ (λ (x y : ℕ). x + 256 * y) (get_or-drop at bs k 0) (get_or-drop at bs (k + 1) 0 ∙ ap (λ (i : ℕ). get_or bs i 0) e)

@@ -1,6 +1,6 @@
 -- A record that is there as a whole: which of the later rows it breaks, or what is read with it.
-use Rattle.std.proofs.Common.{◌≡◌, ℕ, ◌+◌, ◌*◌, ◌<◌, ◌≤◌, Bool, true, false, ◌||◌, ltb, leb, ◌⊎◌, List, length, take, Some, None, sym, refl, ap, ◌∙◌, ap₂, subst, ⊎_elim, arith}
-use Rattle.std.proofs.lemmas.Bool.{cond-true, cond-false, le-ltb, lt-ltb, le-leb, lt-leb, or_left, or_right, or_from, not_from_false, not_from_true, true≢false}
+use Rattle.std.proofs.Common.{◌≡◌, ℕ, ◌+◌, ◌*◌, ◌≤◌, Bool, true, false, ◌||◌, ltb, leb, List, length, take, Some, None, sym, refl, ap, ◌∙◌, ap₂, subst, arith, ◌&&◌}
+use Rattle.std.proofs.lemmas.Bool.{and_from, and_parts, cond-false, cond-true, le-leb, le-ltb, leb-false, leb-true, lt-leb, lt-ltb, ltb-false, ltb-true, not_from_false, not_from_true, or_from, or_left, or_right, true≢false}
 use Rattle.model.specs.declared.form.RecordKind.{RecordKind}
 use Rattle.model.specs.declared.form.RecordKind.TheVariants.{Windows, AtMost, Different}
 use Rattle.model.specs.Kinds.{shape}
@@ -40,24 +40,35 @@ named k m left = is_named_once (length m.windows) (variables_in (shape k).each (
 
 -- constraint records
 
-pub crowded_step : (left : List ℕ) (k : RecordKind) (w : Whole false left k) (m : Value) → (64 ≤ length m.records) ⊎ (1024 < entries m.records + count left) → step false m left ≡ broken 7
+-- whether there is room, as the rows ask
+no-room : (a b : ℕ) → (ltb a 64 && leb b 1024) ≡ false → (leb 64 a || ltb 1024 b) ≡ true
+no-room a b e = go (ltb a 64) (leb b 1024) refl refl
+  where
+    go : (x y : Bool) → ltb a 64 ≡ x → leb b 1024 ≡ y → (leb 64 a || ltb 1024 b) ≡ true
+    go false y p q = or_left _ _ (le-leb 64 a (ltb-false a 64 p))
+    go true false p q = or_right _ _ (lt-ltb 1024 b (leb-false b 1024 q))
+    go true true p q = absurd (true≢false (sym (and_from _ _ p q) ∙ e))
+
+pub crowded_step : (left : List ℕ) (k : RecordKind) (w : Whole false left k) (m : Value) → (ltb (length m.records) 64 && leb (entries m.records + count left) 1024) ≡ false → step false m left ≡ broken 7
 crowded_step left Windows w m h = absurd (true≢false w.placed)
-crowded_step left AtMost w m h = crowded_row false left AtMost w m (⊎_elim (λ p. or_left _ _ (le-leb 64 (length m.records) p)) (λ p. or_right _ _ (lt-ltb 1024 (entries m.records + count left) p)) h)
-crowded_step left Different w m h = crowded_row false left Different w m (⊎_elim (λ p. or_left _ _ (le-leb 64 (length m.records) p)) (λ p. or_right _ _ (lt-ltb 1024 (entries m.records + count left) p)) h)
+crowded_step left AtMost w m h = crowded_row false left AtMost w m (no-room (length m.records) (entries m.records + count left) h)
+crowded_step left Different w m h = crowded_row false left Different w m (no-room (length m.records) (entries m.records + count left) h)
 
-roomy : (left : List ℕ) (m : Value) → length m.records < 64 → entries m.records + count left ≤ 1024 → (leb 64 (length m.records) || ltb 1024 (entries m.records + count left)) ≡ false
-roomy left m p q = or_from _ _ (lt-leb 64 (length m.records) p) (le-ltb 1024 (entries m.records + count left) q)
+roomy : (left : List ℕ) (m : Value) → (ltb (length m.records) 64 && leb (entries m.records + count left) 1024) ≡ true → (leb 64 (length m.records) || ltb 1024 (entries m.records + count left)) ≡ false
+roomy left m h =
+    let p = and_parts (ltb (length m.records) 64) (leb (entries m.records + count left) 1024) h in
+    or_from _ _ (lt-leb 64 (length m.records) (ltb-true _ _ p.0)) (le-ltb 1024 (entries m.records + count left) (leb-true _ _ p.1))
 
-module _ (left : List ℕ) (m : Value) (p : length m.records < 64) (q : entries m.records + count left ≤ 1024) where
+module _ (left : List ℕ) (m : Value) (r : (ltb (length m.records) 64 && leb (entries m.records + count left) 1024) ≡ true) where
   pub variable-step : (k : RecordKind) → Whole false left k → named k m left ≡ false → step false m left ≡ broken 6
   variable-step Windows w e = absurd (true≢false w.placed)
-  variable-step AtMost w e = variable-row false left AtMost w m (roomy left m p q) refl (not_from_false _ e)
-  variable-step Different w e = variable-row false left Different w m (roomy left m p q) refl (not_from_false _ e)
+  variable-step AtMost w e = variable-row false left AtMost w m (roomy left m r) refl (not_from_false _ e)
+  variable-step Different w e = variable-row false left Different w m (roomy left m r) refl (not_from_false _ e)
 
   pub record_step : (k : RecordKind) → Whole false left k → named k m left ≡ true → step false m left ≡ more (extended k m left)
   record_step Windows w e = absurd (true≢false w.placed)
-  record_step AtMost w e = read-row false left AtMost w m (roomy left m p q) refl (not_from_true _ e)
-  record_step Different w e = read-row false left Different w m (roomy left m p q) refl (not_from_true _ e)
+  record_step AtMost w e = read-row false left AtMost w m (roomy left m r) refl (not_from_true _ e)
+  record_step Different w e = read-row false left Different w m (roomy left m r) refl (not_from_true _ e)
 
 -- the windows
 

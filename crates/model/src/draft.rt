@@ -1,4 +1,4 @@
-ghost use Rattle.std.specs.Prelude.{◌≡◌, ◌+◌, ◌≤◌, true, length};
+ghost use Rattle.std.specs.Prelude.{◌≡◌, ◌+◌, ◌≤◌, true, ◌&&◌, length, nat_lt, nat_le};
 ghost use Rattle.model.specs.Drafts.{stored_records, are_placed, Noted};
 ghost use Rattle.model.specs.Values.{entries};
 
@@ -43,4 +43,13 @@ pub(crate) struct Draft {
     ghost most: { length terms.items + length distinct.items ≤ 1024 },
     ghost placed: { are_placed (length terms.items) (length distinct.items) stored.items ≡ true },
     ghost noted: { Noted naming (stored_records terms.items distinct.items stored.items) },
+}
+
+impl Draft {
+    // Whether there is room for one more record, with so many entries.
+    pub fn has_room(&self, count: usize) -> bool
+        ensures { result ≡ (nat_lt (length self.now.stored.items) 64 && nat_le (length self.now.terms.items + length self.now.distinct.items + count) 1024) }
+    {
+        self.stored.len() < 64 && count <= 1024 - (self.terms.len() + self.distinct.len())
+    }
 }

@@ -1,5 +1,5 @@
 ghost use Rattle.std.specs.Prelude.{◌≡◌, ◌+◌, ◌*◌};
-ghost use Rattle.model.specs.Kinds.{kind_of, shape};
+ghost use Rattle.model.specs.Kinds.{IsKind, shape};
 ghost use Rattle.model.specs.Reading.{is_misplaced};
 
 use crate::kind::{AtMost, Different, Windows};
@@ -19,19 +19,26 @@ pub(crate) struct Shape {
     pub each: usize,
 }
 
-impl RecordKind {
-    // The kind with this number.
-    pub(crate) fn of(number: u16) -> Option<RecordKind>
-        ensures { result ≡ kind_of number }
-    {
+// A number that no kind of record has.
+#[derive(Clone, Copy, Drop)]
+pub(crate) struct UnknownKind(pub u16);
+
+impl TryFrom<u16> for RecordKind {
+    type Error = UnknownKind;
+
+    ghost try_from_gives = { IsKind };
+
+    fn try_from(number: u16) -> Result<RecordKind, UnknownKind> {
         match number {
-            Windows::NUMBER => Some(RecordKind::Windows),
-            AtMost::NUMBER => Some(RecordKind::AtMost),
-            Different::NUMBER => Some(RecordKind::Different),
-            _ => None,
+            Windows::NUMBER => Ok(RecordKind::Windows),
+            AtMost::NUMBER => Ok(RecordKind::AtMost),
+            Different::NUMBER => Ok(RecordKind::Different),
+            _ => Err(UnknownKind(number)),
         }
     }
+}
 
+impl RecordKind {
     pub(crate) fn shape(self) -> Shape
         ensures { result ≡ shape self }
     {

@@ -88,9 +88,7 @@ fn read_constraint(draft: &mut Draft, left: &[u8], at: usize) -> Result<usize, M
 {
     let kind = record_at(left, at, false)?;
     let entries = Entries::of(left, kind);
-    if draft.stored.len() >= 64
-        || entries.count > 1024 - (draft.terms.len() + draft.distinct.len())
-    {
+    if !draft.has_room(entries.count) {
         return Err(ModelFault::Crowded(at));
     }
     if !named_once(&entries, draft.windows.len()) {

@@ -77,7 +77,7 @@ pub(crate) fn record_at(left: &[u8], at: usize, first: bool) -> Result<RecordKin
     if left.len() < 4 {
         return Err(ModelFault::Short(at));
     }
-    let kind = RecordKind::of(word(&left[2..])).ok_or(ModelFault::Unknown(at))?;
+    let kind = RecordKind::try_from(word(&left[2..])).map_err(|_| ModelFault::Unknown(at))?;
     if kind.misplaced(first) {
         return Err(ModelFault::Misplaced(at));
     }
