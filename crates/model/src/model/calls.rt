@@ -6,9 +6,9 @@ ghost use Rattle.model.specs.Meaning.{means, windows, records};
 ghost use Rattle.model.specs.Promises.{Reads, Shows, fresh};
 
 use super::Model;
-use crate::draft::Stored;
+use crate::draft::{Draft, Stored};
 use crate::fault::ModelFault;
-use crate::read::{draft_of, empty};
+use crate::read::draft_of;
 use crate::values::{Term, Window};
 use bits::Set;
 
@@ -32,7 +32,7 @@ impl Model {
     pub fn fresh() -> Model
         ensures { means result ≡ fresh }
     {
-        let mut draft = empty();
+        let mut draft = Draft::empty();
         draft.windows.push(Window { low: 0, high: 1 });
         Model { draft }
     }

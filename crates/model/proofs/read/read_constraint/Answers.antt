@@ -35,7 +35,7 @@ returns c =
     let w = c.in_ok-kind.ensures.opens in
     let named = c.if-not-named_once.ensures ∙ ap₂ (λ (n : ℕ) (xs : List ℕ). is_named_once n xs) c.len.ensures.value (names_are k left _ a) in
     record {
-      step = record_step left (drafted d) (room d left _ a.number ∙ sym c.if-not-has_room.ensures) k w (sym named) ∙ ap more (sym c.add_record.ensures);
+      step = record_step left (drafted d) (room d left _ a.number ∙ sym c.if-not-has_room.ensures) k w (sym named) ∙ ap more (sym c.add.ensures);
       is = ap (λ (n : ℕ). 4 + n) c.word.ensures;
       within = omega (arith, w.ended, c.word.ensures);
     }

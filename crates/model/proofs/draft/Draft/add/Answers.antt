@@ -12,7 +12,7 @@ use Rattle.model.specs.Drafted.{drafted}
 use Rattle.model.specs.Scans.{AreEntriesOf}
 use Rattle.model.proofs.Heads.{long-later}
 use Rattle.model.proofs.Steps.{entries-are, names_are}
-use Rattle.model.proofs.read.add_record.Goals as goal
+use Rattle.model.proofs.draft.Draft.add.Goals as goal
 
 -- the entries of a sum, and those of a list
 of : (k j : RecordKind) (left : List ℕ) (e : Entries) → j ≡ k → AreEntriesOf j left e → AreEntriesOf k left e
@@ -31,7 +31,7 @@ long-requires c =
 
 pub returns-in-AtMost : goal.returns-in-AtMost
 returns-in-AtMost c =
-    let m = drafted c.args.draft.now in
+    let m = drafted c.args.self.now in
     let left = c.args.left.now in
     let e = c.args.entries.now in
     let a = of AtMost _ _ _ c.in-AtMost.is c.requires.1 in
@@ -43,7 +43,7 @@ returns-in-AtMost c =
 
 pub returns-in-Different : goal.returns-in-Different
 returns-in-Different c =
-    let m = drafted c.args.draft.now in
+    let m = drafted c.args.self.now in
     let left = c.args.left.now in
     let a = of Different _ _ _ c.in-Different.is c.requires.1 in
     c.add_listed.ensures
