@@ -6,9 +6,6 @@ use Rattle.model.specs.Fronts.{ReadsFront}
 use Rattle.model.proofs.Fronts.{next, none}
 use Rattle.model.proofs.fill.fill.Goals as goal
 
-pub read-requires : goal.read-requires
-read-requires g c = c.in-Some.ensures.steps.1.1 ∙ c.loop-entry.invariant.size ∙ c.requires.0
-
 pub push-requires : goal.push-requires
 push-requires g c =
     let e = c.args.entries.now in

@@ -3,8 +3,8 @@ use Rattle.std.specs.List.{AllByRecursion}
 use Rattle.std.specs.Slice.Iter.{chunks_exact_rest}
 use Rattle.bits.specs.declared.Set.{Set}
 use Rattle.model.specs.Reading.{variables_in}
-use Rattle.model.proofs.Fronts.{next_variable, none}
-use Rattle.model.proofs.Filling.{noted, noted-next, noted-none}
+use Rattle.model.proofs.Fronts.{next_variable}
+use Rattle.model.proofs.Filling.{noted, noted-next}
 use Rattle.model.proofs.fill.note_names.Goals as goal
 
 -- the variable at hand has its set
@@ -46,11 +46,3 @@ loop-entry-preserved c =
       below = h.1;
       same = λ y r l. noted-next sets c.args.record x c.with.result rest (omega (arith, h.0, c.loop-entry.auto.naming)) (c.with.ensures.within c.requires.0) y r ∙ ap (λ (xs : List ℕ). noted sets c.args.record xs y r) (sym q.reads) ∙ i.same y r l;
     }
-
-pub returns : goal.returns
-returns c x r l =
-    let e = c.args.entries.now in
-    let i = c.loop-entry.invariant in
-    let z = none e.each e.some i.left _ i.whole (omega (arith, c.in-None.ensures.steps.1.0, i.size)) in
-    let all = λ (k : ℕ). variables_in e.each k (chunks_exact_rest c.loop-entry.entry-iterator) in
-    sym (ap (λ (k : ℕ). noted c.loop-entry.naming c.args.record (all k) x r) z ∙ noted-none c.loop-entry.naming c.args.record x r) ∙ i.same x r l

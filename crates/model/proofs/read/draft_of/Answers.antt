@@ -1,10 +1,8 @@
 use Rattle.std.proofs.Common.{◌≡◌, ℕ, zero, suc, ◌+◌, ◌<◌, ◌≤◌, false, true, List, [], length, drop, sym, ap, ◌∙◌, ap₂, arith}
 use Rattle.std.proofs.lemmas.List.{drop-drop, drop_all, length-drop, take_rest}
-use Rattle.std.proofs.lemmas.Result.{err_from_is_err_and}
 use Rattle.std.proofs.ByRecursion.{All-from_get_or}
-use Rattle.model.specs.Faults.{number}
 use Rattle.model.specs.Values.{Value}
-use Rattle.model.specs.Reading.{extent, nothing, step, more, follow, read_rest, read_model, refused}
+use Rattle.model.specs.Reading.{extent, nothing, step, more, follow, read_rest, read_model}
 use Rattle.model.specs.Drafted.{drafted}
 use Rattle.model.proofs.Layouts.{unroll}
 use Rattle.model.proofs.read.draft_of.Goals as goal
@@ -29,18 +27,6 @@ loop-at-init c =
       enough = omega arith;
       same = ap (follow (read_rest (length bs)) 0 bs) first ∙ ap₂ (λ (a b : ℕ). read_rest (length bs) e a (drop b bs)) o p;
     }
-
-pub returns-in_err-at-2 : goal.returns-in_err-at-2
-returns-in_err-at-2 c =
-    let bs = c.args.bytes.now in
-    let at = c.loop-at.at in
-    let m = drafted c.loop-at.draft in
-    let i = c.loop-at.invariant in
-    let f = followed bs m at c.loop-at-test.true i.fuel i.enough i.same in
-    let b = c.in_err-at-2.ensures in
-    let left = ap (step false m) (take_rest bs at) in
-    let p = err_from_is_err_and c.from_residual-in_err-at-2.result c.from_residual-in_err-at-2.ensures.1 in
-    rw (p.1, p.2) (f.2 ∙ ap (follow (read_rest f.0) at (drop at bs)) (sym left ∙ b.1) ∙ ap (refused (number c.in_err-at-2.field-0.0)) (sym b.0))
 
 pub loop-at-preserved : goal.loop-at-preserved
 loop-at-preserved c =

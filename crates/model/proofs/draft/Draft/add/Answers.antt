@@ -1,5 +1,5 @@
 use Rattle.std.proofs.Common.{◌≡◌, ℕ, List, ℤ, sym, ap, ◌∙◌, ap₂, subst, arith, w32, to_z, of_z}
-use Rattle.std.proofs.lemmas.List.{take_rest, length-drop}
+use Rattle.std.proofs.lemmas.List.{take_rest}
 use Rattle.std.proofs.lemmas.Int.{to_z-of_z}
 use Rattle.model.specs.declared.form.RecordKind.{RecordKind}
 use Rattle.model.specs.declared.form.RecordKind.TheVariants.{AtMost, Different}
@@ -18,16 +18,8 @@ use Rattle.model.proofs.draft.Draft.add.Goals as goal
 of : (k j : RecordKind) (left : List ℕ) (e : Entries) → j ≡ k → AreEntriesOf j left e → AreEntriesOf k left e
 of k j left e q a = subst (λ (i : RecordKind). AreEntriesOf i left e) q a
 
-pub slice_bounds-long-count : goal.slice_bounds-long-count
-slice_bounds-long-count c = omega (arith, (of AtMost _ _ _ c.in-AtMost.is c.requires.1).within)
-
 pub slice_bounds-long-start : goal.slice_bounds-long-start
 slice_bounds-long-start c = omega (arith, (of AtMost _ _ _ c.in-AtMost.is c.requires.1).within)
-
-pub long-requires : goal.long-requires
-long-requires c =
-    let left = c.args.left.now in
-    omega (arith, ap lib.ListN.length (take_rest left 5), length-drop 5 left, (of AtMost _ _ _ c.in-AtMost.is c.requires.1).within)
 
 pub returns-in-AtMost : goal.returns-in-AtMost
 returns-in-AtMost c =
