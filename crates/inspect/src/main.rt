@@ -1,5 +1,6 @@
 #![tactic(auto)]
 
+use faults::Fault;
 use model::model::Model;
 use model::model::calls::Constraint;
 use model::values::Term;

@@ -1,26 +1,11 @@
--- Places that are filled one after another, and sets that records are noted in.
-use Rattle.std.proofs.Common.{◌≡◌, ℕ, ◌+◌, ◌<◌, Bool, true, false, ◌&&◌, ◌||◌, eqb, List, [], ◌∷◌, ◌++◌, length, get_or, take, drop, set, sym, refl, ap, ◌∙◌, ap₂, ⊎_elim, arith}
-use Rattle.std.proofs.lemmas.List.{append_assoc, length-append, length-take-le, drop_more, set_at, get_or-set_same, get_or-set_other, take-append-drop}
+-- Sets that records are noted in.
+use Rattle.std.proofs.Common.{◌≡◌, ℕ, ◌<◌, Bool, true, false, ◌&&◌, ◌||◌, eqb, List, [], ◌∷◌, length, get_or, set, sym, refl, ap, ◌∙◌, ap₂, ⊎_elim}
+use Rattle.std.proofs.lemmas.List.{get_or-set_same, get_or-set_other}
 use Rattle.std.proofs.lemmas.Bool.{eq-eqb, ne_eqb, cases_eq}
 use Rattle.bits.specs.Bit.{has}
 use Rattle.bits.specs.declared.Set.{Set}
 use Rattle.model.specs.Drafts.{none}
 use Rattle.model.specs.Reading.{among}
-
--- one more in its place
-pub placed_more : {A : Type 0} (old new : List A) (from i : ℕ) (v : A) → length new ≡ i → from + i < length old → set (take from old ++ (new ++ drop (from + i) old)) (from + i) v ≡ take from old ++ ((new ++ (v ∷ [])) ++ drop (from + (i + 1)) old)
-placed_more {A} old new from i v n h =
-    let e : from + i + 1 ≡ from + (i + 1) = omega arith in
-    let d : drop (from + i) old ≡ get_or old (from + i) v ∷ drop (from + (i + 1)) old = drop_more old (from + i) v h ∙ ap (λ (k : ℕ). get_or old (from + i) v ∷ drop k old) e in
-    let p = take from old ++ new in
-    let len : length (take from old ++ new) ≡ from + i = length-append (take from old) new ∙ ap₂ (λ (a b : ℕ). a + b) (length-take-le from old (omega arith)) n in
-    ap (λ (xs : List A). set xs (from + i) v) (ap (λ (xs : List A). take from old ++ (new ++ xs)) d ∙ sym (append_assoc (take from old) new (get_or old (from + i) v ∷ drop (from + (i + 1)) old)))
-    ∙ set_at p (get_or old (from + i) v) (drop (from + (i + 1)) old) v (from + i) len
-    ∙ append_assoc (take from old) new (v ∷ drop (from + (i + 1)) old)
-    ∙ ap (λ (xs : List A). take from old ++ xs) (sym (append_assoc new (v ∷ []) (drop (from + (i + 1)) old)))
-
-pub placed-none : {A : Type 0} (old : List A) (from : ℕ) → old ≡ take from old ++ drop (from + 0) old
-placed-none {A} old from = let e : from + 0 ≡ from = omega arith in sym (take-append-drop from old) ∙ ap (λ (k : ℕ). take from old ++ drop k old) (sym e)
 
 -- the set of x holds r, now or with the entries that are left
 abbrev pub noted : List Set → ℕ → List ℕ → ℕ → ℕ → Bool

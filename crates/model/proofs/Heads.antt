@@ -1,5 +1,5 @@
 -- The first rows of a record: each is reached where those before it hold.
-use Rattle.std.proofs.Common.{◌≡◌, ℕ, ◌+◌, ◌*◌, ◌<◌, ◌≤◌, Bool, true, false, not, ◌&&◌, eqb, ltb, leb, List, length, get_or, drop, Some, Option, sym, ap, ◌∙◌, ap₂, arith}
+use Rattle.std.proofs.Common.{◌≡◌, ℕ, ◌+◌, ◌*◌, ◌<◌, ◌≤◌, Bool, true, false, not, ◌&&◌, eqb, ltb, leb, List, length, get_or, drop, Some, Option, ap, ◌∙◌, ap₂, arith}
 use Rattle.std.proofs.lemmas.List.{get_or-drop}
 use Rattle.std.proofs.lemmas.Bool.{cond-true, cond-false, lt-ltb, le-ltb, le-leb, lt-leb, ne_eqb, and_left, and_right, not_from_false}
 use Rattle.model.specs.declared.form.RecordKind.{RecordKind}
@@ -7,18 +7,16 @@ use Rattle.model.specs.Kinds.{kind_of, shape}
 use Rattle.model.specs.Values.{Value}
 use Rattle.model.specs.Reading.{word, long, count, body_length, extent, is_misplaced, is_misfit, rows, first_broken, broken, by_rows, by_kind, step}
 
-pub word-later : (bs : List ℕ) (at k : ℕ) → word (drop (at + k) bs) 0 ≡ word (drop at bs) k
+-- the number further on
+pub word-later : (bs : List ℕ) (at k : ℕ) → word (drop at bs) k ≡ word bs (at + k)
 word-later bs at k =
-    let e : at + k + 0 ≡ at + k = omega arith in
-    let f : at + k + 1 ≡ at + (k + 1) = omega arith in
-    let a : get_or (drop (at + k) bs) 0 0 ≡ get_or (drop at bs) k 0 = get_or-drop (at + k) bs 0 0 ∙ ap (λ (i : ℕ). get_or bs i 0) e ∙ sym (get_or-drop at bs k 0) in
-    let b : get_or (drop (at + k) bs) 1 0 ≡ get_or (drop at bs) (k + 1) 0 = get_or-drop (at + k) bs 1 0 ∙ ap (λ (i : ℕ). get_or bs i 0) f ∙ sym (get_or-drop at bs (k + 1) 0) in
-    ap₂ (λ (x y : ℕ). x + 256 * y) a b
+    let e : at + (k + 1) ≡ at + k + 1 = omega arith in
+    ap₂ (λ (x y : ℕ). x + 256 * y) (get_or-drop at bs k 0) (get_or-drop at bs (k + 1) 0 ∙ ap (λ (i : ℕ). get_or bs i 0) e)
 
-pub long-later : (bs : List ℕ) (at k : ℕ) → long (drop (at + k) bs) 0 ≡ long (drop at bs) k
-long-later bs at k =
-    let e : at + k + 2 ≡ at + (k + 2) = omega arith in
-    ap₂ (λ (x y : ℕ). x + 65536 * y) (word-later bs at k) (sym (word-later bs (at + k) 2) ∙ ap (λ (i : ℕ). word (drop i bs) 0) e ∙ word-later bs at (k + 2))
+pub long-later : (bs : List ℕ) (at : ℕ) → long (drop at bs) 0 ≡ long bs at
+long-later bs at =
+    let e : at + 0 ≡ at = omega arith in
+    ap₂ (λ (x y : ℕ). x + 65536 * y) (word-later bs at 0 ∙ ap (word bs) e) (word-later bs at 2)
 
 module _ (first : Bool) (left : List ℕ) (m : Value) where
   pub short_step : length left < 4 → step first m left ≡ broken 1

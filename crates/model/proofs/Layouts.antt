@@ -15,7 +15,7 @@ use Rattle.model.specs.Kinds.{shape}
 use Rattle.model.specs.Layout.{two_bytes, four_bytes, framed, window_bytes, term_bytes, windows_bytes, record_bytes, encode}
 use Rattle.model.specs.Reading.{word, long, body_length, count, extent, entry_bytes, window_at, term_at, variable_at, windows_in, terms_in, variables_in, bound_in, do_windows_fit, is_named_once, is_misfit, rows, with_record, extended, Step, broken, more, step, accepted, refused, follow, read_rest, nothing, read_model}
 use Rattle.model.specs.Layout.{Bytes}
-use Rattle.model.proofs.Entries.{two_read, four_read, four_laid, windows-read, windows_laid, length-window_bytes, terms-read, terms_laid, length-term_bytes, terms-sized, terms-names, listed-read, listed_laid, length-entries, windows-valid, windows_pass, named-below, named_pass}
+use Rattle.model.proofs.EntryBytes.{two_read, four_read, four_laid, windows-read, windows_laid, length-window_bytes, terms-read, terms_laid, length-term_bytes, terms-sized, terms-names, listed-read, listed_laid, length-entries, windows-valid, windows_pass, named-below, named_pass}
 use Rattle.model.proofs.Rows.{number_of, step-read, read_step, Unbroken}
 
 -- what is laid out is accepted
@@ -73,7 +73,7 @@ record_step m (at_most bound ts) rest v room =
     let left = record_bytes (at_most bound ts) ++ rest in
     let n : length (map (λ (t : Term). t.variable) ts) ≡ length ts = length-map ts (λ (t : Term). t.variable) in
     let r = terms-read ts rest v.sized.1 in
-    let x : variables_in 3 (length ts) (flat_map term_bytes ts ++ rest) ≡ map (λ t. t.variable) ts = sym (terms-names (length ts) (flat_map term_bytes ts ++ rest)) ∙ ap (map (λ t. t.variable)) r in
+    let x : variables_in 3 (length ts) (flat_map term_bytes ts ++ rest) ≡ map (λ t. t.variable) ts = sym (terms-names 3 (length ts) (flat_map term_bytes ts ++ rest)) ∙ ap (map (λ t. t.variable)) r in
     let b : bound_in left ≡ bound = ap (to_z w32) (four_read (of_z w32 bound)) ∙ to_z-of_z w32 bound v.sized.0 in
     read_step false m left AtMost (omega arith) refl (
       refl,
@@ -270,7 +270,7 @@ record_laid m left next o v e = let r = step-read false m left next e in go r.ki
     at_most-valid u =
         let f = fitting AtMost left u.1.1.0 in
         let ts = terms_in (count left) (entry_bytes AtMost left) in
-        let x = terms-names (count left) (entry_bytes AtMost left) in
+        let x = terms-names 3 (count left) (entry_bytes AtMost left) in
         let n = length-map ts (λ (t : Term). t.variable) in
         let k = length-entries term_at 3 (count left) (entry_bytes AtMost left) in
         let b = named-below (length m.windows) (variables_in 3 (count left) (entry_bytes AtMost left)) (not-false _ u.1.1.1.1.1.0) in

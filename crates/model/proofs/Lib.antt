@@ -1,4 +1,5 @@
-pub mod Entries
+pub mod Fronts
+pub mod EntryBytes
 pub mod Rows
 pub mod Layouts
 pub mod Scanning

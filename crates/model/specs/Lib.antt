@@ -3,7 +3,9 @@ pub mod Kinds
 pub mod Faults
 pub mod Layout
 pub mod Reading
+pub mod Fronts
 pub mod Drafts
+pub mod Drafted
 pub mod Scans
 pub mod Meaning
 pub mod Promises

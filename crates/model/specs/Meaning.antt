@@ -2,7 +2,7 @@
 use Rattle.std.specs.Prelude.{List}
 use Rattle.model.specs.declared.model.Model.{Model}
 use Rattle.model.specs.declared.values.Window.{Window}
-use Rattle.model.specs.Drafts.{drafted}
+use Rattle.model.specs.Drafted.{drafted}
 use Rattle.model.specs.Values.{Value, Record}
 
 abbrev pub means : Model → Value

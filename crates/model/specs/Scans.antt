@@ -1,14 +1,15 @@
 -- What the parts of the reader find. Assumes nothing.
-use Rattle.std.specs.Prelude.{◌≡◌, ℕ, ◌+◌, ◌*◌, ◌<◌, ◌≤◌, Bool, true, false, List, length, drop, Some, Ok, Err, Result}
+use Rattle.std.specs.Prelude.{◌≡◌, ℕ, ◌+◌, ◌*◌, ◌<◌, ◌≤◌, Bool, true, false, List, length, take, Some, Ok, Err, Result}
 use Rattle.model.specs.declared.fault.ModelFault.{ModelFault}
 use Rattle.model.specs.declared.form.RecordKind.{RecordKind}
 use Rattle.model.specs.Faults.{number, place}
 use Rattle.model.specs.Kinds.{kind_of, shape}
 use Rattle.model.specs.Values.{Value}
-use Rattle.model.specs.Reading.{word, count, variables_in, is_named_once, extent, is_misplaced, is_misfit, step, broken, more, read_model, accepted, refused}
-use Rattle.model.specs.Drafts.{Tidy, drafted}
+use Rattle.model.specs.Reading.{word, count, entry_bytes, entries_in, variable_at, is_named_once, extent, is_misplaced, is_misfit, step, broken, more, read_model, accepted, refused}
+use Rattle.model.specs.Drafted.{drafted}
 use Rattle.model.specs.Layout.{Bytes}
 use Rattle.model.specs.declared.draft.Draft.{Draft}
+use Rattle.model.specs.declared.entries.Entries.{Entries}
 
 -- The record is refused whatever was read before it.
 abbrev pub Refuses : Bool → ℕ → List ℕ → ModelFault → Type 0
@@ -26,26 +27,36 @@ abbrev pub Opens : Bool → ℕ → List ℕ → Result RecordKind ModelFault �
 Opens first at left (Ok k) = Whole first left k
 Opens first at left (Err e) = Refuses first at left e
 
--- One record was read, which is the next of `left`; `next` is the offset after it.
-pub record Took (first : Bool) (at : ℕ) (bs : List ℕ) (d e : Draft) (next : ℕ) : Type 0 where
-  pub tidy : Tidy e
-  pub step : step first (drafted d) (drop at bs) ≡ more (drafted e)
-  pub offset : next ≡ at + extent (drop at bs)
-  pub within : next ≤ length bs
+-- The entries, each of them read by f, and the variables that they name.
+abbrev pub read_by : {A : Type 0} → (List ℕ → A) → Entries → List A
+read_by f e = entries_in f e.each e.count e.bytes.now
+
+abbrev pub named_in : Entries → List ℕ
+named_in = read_by variable_at
+
+-- These are the entries of the record, which is there as a whole.
+pub record AreEntriesOf (k : RecordKind) (left : List ℕ) (e : Entries) : Type 0 where
+  pub within : 4 + ((shape k).before + (shape k).each * count left) ≤ length left
+  pub each : e.each ≡ (shape k).each
+  pub number : e.count ≡ count left
+  pub bytes : e.bytes.now ≡ take ((shape k).each * count left) (entry_bytes k left)
+
+-- The record was read, which is the next of `left`, and has so many bytes.
+pub record Took (first : Bool) (left : List ℕ) (d e : Draft) (size : ℕ) : Type 0 where
+  pub step : step first (drafted d) left ≡ more (drafted e)
+  pub is : size ≡ extent left
+  pub within : size ≤ length left
 
 abbrev pub ReadsRecord : Bool → ℕ → List ℕ → Draft → Draft → Result ℕ ModelFault → Type 0
-ReadsRecord first at bs d e (Ok next) = Took first at bs d e next
-ReadsRecord first at bs d e (Err f) = (place f ≡ at) × (step first (drafted d) (drop at bs) ≡ broken (number f))
+ReadsRecord first at left d e (Ok size) = Took first left d e size
+ReadsRecord first at left d e (Err f) = (place f ≡ at) × (step first (drafted d) left ≡ broken (number f))
 
 abbrev pub ReadsBytes : List ℕ → Result Draft ModelFault → Type 0
-ReadsBytes bs (Ok d) = Tidy d × (read_model bs ≡ accepted (drafted d)) × Bytes bs
+ReadsBytes bs (Ok d) = (read_model bs ≡ accepted (drafted d)) × Bytes bs
 ReadsBytes bs (Err f) = read_model bs ≡ refused (number f) (place f)
 
--- The constraint record at `at` has passed every test, and may be added.
-pub record Ready (k : RecordKind) (d : Draft) (bs : List ℕ) (at n : ℕ) : Type 0 where
-  pub tidy : Tidy d
-  pub room : d.records < 64
-  pub most : d.summed + d.listed + n ≤ 1024
-  pub whole : at + (4 + (shape k).before) + (shape k).each * n ≤ length bs
-  pub is : n ≡ count (drop at bs)
-  pub named : is_named_once d.variables (variables_in (shape k).each n (drop (at + (4 + (shape k).before)) bs)) ≡ true
+-- The entries have passed every test, and there is room for them.
+pub record Ready (d : Draft) (e : Entries) : Type 0 where
+  pub room : length d.stored.items < 64
+  pub most : length d.terms.items + length d.distinct.items + e.count ≤ 1024
+  pub named : is_named_once (length d.windows.items) (named_in e) ≡ true

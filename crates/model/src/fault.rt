@@ -1,5 +1,8 @@
-ghost use Rattle.std.specs.Prelude.{◌≡◌};
+ghost use Rattle.std.specs.Prelude.{◌≡◌, Some};
 ghost use Rattle.model.specs.Faults.{number, place, reason};
+
+use faults::Fault;
+use std::fmt;
 
 // Why model bytes are refused. Each holds the offset of the record that is at fault.
 #[derive(Clone, Copy, PartialEq, Eq, Debug)]
@@ -20,11 +23,12 @@ pub enum ModelFault {
     Crowded(usize),
 }
 
-impl ModelFault {
-    // The published number of the fault.
-    pub fn number(&self) -> u8
-        ensures { result ≡ number self.now }
-    {
+impl Fault for ModelFault {
+    ghost number = { number };
+
+    ghost place = { place };
+
+    fn number(&self) -> u8 {
         match self {
             ModelFault::Short(_) => 1,
             ModelFault::Unknown(_) => 2,
@@ -36,21 +40,21 @@ impl ModelFault {
         }
     }
 
-    // The published place of the fault: the offset of the record.
-    pub fn place(&self) -> usize
-        ensures { result ≡ place self.now }
-    {
+    // The offset of the record.
+    fn place(&self) -> usize {
         match self {
-            ModelFault::Short(at) => *at,
-            ModelFault::Unknown(at) => *at,
-            ModelFault::Misplaced(at) => *at,
-            ModelFault::Misfit(at) => *at,
-            ModelFault::Window(at) => *at,
-            ModelFault::Variable(at) => *at,
-            ModelFault::Crowded(at) => *at,
+            ModelFault::Short(at)
+            | ModelFault::Unknown(at)
+            | ModelFault::Misplaced(at)
+            | ModelFault::Misfit(at)
+            | ModelFault::Window(at)
+            | ModelFault::Variable(at)
+            | ModelFault::Crowded(at) => *at,
         }
     }
+}
 
+impl ModelFault {
     // The reason in words.
     pub fn reason(&self) -> &'static str
         ensures { result.now ≡ reason self.now }
@@ -64,5 +68,13 @@ impl ModelFault {
             ModelFault::Variable(_) => "a variable is not there or comes twice",
             ModelFault::Crowded(_) => "there are too many records or entries",
         }
+    }
+}
+
+impl fmt::Display for ModelFault {
+    ghost output = { λ fault. Some (reason fault) };
+
+    fn fmt<W: fmt::Write>(&self, f: &mut fmt::Formatter<W>) -> fmt::Result {
+        f.write_str(self.reason())
     }
 }

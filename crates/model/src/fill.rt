@@ -1,25 +1,29 @@
-ghost use Rattle.std.specs.Prelude.{◌≡◌, ℕ, ◌+◌, ◌*◌, ◌<◌, ◌≤◌, ◌&&◌, ◌||◌, List, ◌++◌, length, take, drop, nat_eq, slice_index_or};
+ghost use Rattle.std.specs.Prelude.{◌≡◌, ℕ, ◌+◌, ◌<◌, ◌≤◌, ◌&&◌, ◌||◌, List, ◌++◌, length, nat_eq, slice_index_or};
 ghost use Rattle.std.specs.List.{AllByRecursion};
 ghost use Rattle.bits.specs.Bit.{has};
 ghost use Rattle.model.specs.Drafts.{none};
-ghost use Rattle.model.specs.Reading.{entries_in, window_at, term_at, variable_at, variables_in, among};
+ghost use Rattle.model.specs.Reading.{window_at, term_at, variable_at, among};
+ghost use Rattle.model.specs.Scans.{read_by, named_in};
+ghost use Rattle.model.specs.Fronts.{ReadsFront, window_front, term_front, listed_front};
 
-use crate::scan::word_at;
+use crate::entries::Entries;
+use crate::scan::word;
 use crate::values::{Term, Window};
+use arrayvec::ArrayVec;
 use bits::Set;
 
 // What a record lists: so many bytes each.
-pub(crate) trait Entry: Copy {
+pub(crate) trait Entry: Copy + Default {
     ghost read: { List ℕ → Self };
 
     ghost each: { ℕ };
 
-    fn each() -> usize
-        ensures { result ≡ each };
+    // No byte behind the entry counts.
+    ghost front: { ReadsFront each read };
 
-    fn read_at(bytes: &[u8], at: usize) -> Self
-        requires { at + each ≤ length bytes.now }
-        ensures { result ≡ read (drop at bytes.now) };
+    fn read(entry: &[u8]) -> Self
+        requires { length entry.now ≡ each }
+        ensures { result ≡ read entry.now };
 }
 
 impl Entry for Window {
@@ -27,14 +31,12 @@ impl Entry for Window {
 
     ghost each = { 2 };
 
-    fn each() -> usize {
-        2
-    }
+    ghost front = { window_front };
 
-    fn read_at(bytes: &[u8], at: usize) -> Window {
+    fn read(entry: &[u8]) -> Window {
         Window {
-            low: bytes[at],
-            high: bytes[at + 1],
+            low: entry[0],
+            high: entry[1],
         }
     }
 }
@@ -44,15 +46,12 @@ impl Entry for Term {
 
     ghost each = { 3 };
 
-    fn each() -> usize {
-        3
-    }
+    ghost front = { term_front };
 
-    fn read_at(bytes: &[u8], at: usize) -> Term {
-        let coefficient = word_at(bytes, at + 1).cast_signed();
+    fn read(entry: &[u8]) -> Term {
         Term {
-            variable: bytes[at],
-            coefficient,
+            variable: entry[0],
+            coefficient: word(&entry[1..]).cast_signed(),
         }
     }
 }
@@ -63,40 +62,33 @@ impl Entry for u8 {
 
     ghost each = { 1 };
 
-    fn each() -> usize {
-        1
-    }
+    ghost front = { listed_front };
 
-    fn read_at(bytes: &[u8], at: usize) -> u8 {
-        bytes[at]
+    fn read(entry: &[u8]) -> u8 {
+        entry[0]
     }
 }
 
-// Reads `count` entries from `at` on into the places from `from` on.
-pub(crate) fn fill<E: Entry>(entries: &mut [E], from: usize, bytes: &[u8], at: usize, count: usize)
-    requires { (from + count ≤ length entries.old) × (at + E.Entry.each * count ≤ length bytes.now) }
-    ensures { entries.new ≡ take from entries.old ++ (entries_in E.Entry.read E.Entry.each count (drop at bytes.now) ++ drop (from + count) entries.old) }
+// Reads the entries, and puts them behind those that are there.
+pub(crate) fn fill<E: Entry, const MOST: usize>(
+    items: &mut ArrayVec<E, MOST>,
+    entries: &Entries<'_>,
+)
+    requires { (entries.now.each ≡ E.Entry.each) × (length items.old.items + entries.now.count ≤ MOST) }
+    ensures { items.new.items ≡ items.old.items ++ read_by E.Entry.read entries.now }
 {
-    let each = E::each();
-    for i in 0..count {
-        entries[from + i] = E::read_at(bytes, at + each * i);
+    for entry in entries.bytes.chunks_exact(entries.each) {
+        items.push(E::read(entry));
     }
 }
 
 // Adds the record to the sets of the variables that its entries name.
-pub(crate) fn note_names(
-    naming: &mut [Set],
-    record: usize,
-    bytes: &[u8],
-    at: usize,
-    each: usize,
-    count: usize,
-)
-    requires { (at + each * count ≤ length bytes.now) × ((1 ≤ each) × ((«record» < 64) × (AllByRecursion (λ x. x < length naming.old) (variables_in each count (drop at bytes.now))))) }
-    ensures { (x r : ℕ) → x < length naming.old → has (slice_index_or naming.new x none).word r ≡ (has (slice_index_or naming.old x none).word r || (nat_eq r «record» && among x (variables_in each count (drop at bytes.now)))) }
+pub(crate) fn note_names(naming: &mut [Set], record: usize, entries: &Entries<'_>)
+    requires { («record» < 64) × (AllByRecursion (λ x. x < length naming.old) (named_in entries.now)) }
+    ensures { (x r : ℕ) → x < length naming.old → has (slice_index_or naming.new x none).word r ≡ (has (slice_index_or naming.old x none).word r || (nat_eq r «record» && among x (named_in entries.now))) }
 {
-    for i in 0..count {
-        let x = bytes[at + each * i] as usize;
+    for entry in entries.bytes.chunks_exact(entries.each) {
+        let x = entry[0] as usize;
         let set = naming[x];
         naming[x] = set.with(record);
     }

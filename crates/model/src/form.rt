@@ -1,5 +1,5 @@
 ghost use Rattle.std.specs.Prelude.{◌≡◌, ◌+◌, ◌*◌};
-ghost use Rattle.model.specs.Kinds.{kind_of, shape};
+ghost use Rattle.model.specs.Kinds.{IsKind, shape};
 ghost use Rattle.model.specs.Reading.{is_misplaced};
 
 use crate::kind::{AtMost, Different, Windows};
@@ -19,19 +19,26 @@ pub(crate) struct Shape {
     pub each: usize,
 }
 
-impl RecordKind {
-    // The kind with this number.
-    pub(crate) fn of(number: u16) -> Option<RecordKind>
-        ensures { result ≡ kind_of number }
-    {
+// A number that no kind of record has.
+#[derive(Clone, Copy, Drop)]
+pub(crate) struct UnknownKind(pub u16);
+
+impl TryFrom<u16> for RecordKind {
+    type Error = UnknownKind;
+
+    ghost try_from_gives = { IsKind };
+
+    fn try_from(number: u16) -> Result<RecordKind, UnknownKind> {
         match number {
-            Windows::NUMBER => Some(RecordKind::Windows),
-            AtMost::NUMBER => Some(RecordKind::AtMost),
-            Different::NUMBER => Some(RecordKind::Different),
-            _ => None,
+            Windows::NUMBER => Ok(RecordKind::Windows),
+            AtMost::NUMBER => Ok(RecordKind::AtMost),
+            Different::NUMBER => Ok(RecordKind::Different),
+            _ => Err(UnknownKind(number)),
         }
     }
+}
 
+impl RecordKind {
     pub(crate) fn shape(self) -> Shape
         ensures { result ≡ shape self }
     {
@@ -58,12 +65,8 @@ impl RecordKind {
     pub(crate) fn length(self, count: u8) -> usize
         ensures { result ≡ (shape self).before + (shape self).each * count }
     {
-        let count = count as usize;
-        match self {
-            RecordKind::Windows => 1 + 2 * count,
-            RecordKind::AtMost => 5 + 3 * count,
-            RecordKind::Different => 1 + count,
-        }
+        let shape = self.shape();
+        shape.before + shape.each * count as usize
     }
 
     // Whether a record of this kind may not stand here: windows come first, and nowhere else.
@@ -72,8 +75,7 @@ impl RecordKind {
     {
         match self {
             RecordKind::Windows => !first,
-            RecordKind::AtMost => first,
-            RecordKind::Different => first,
+            RecordKind::AtMost | RecordKind::Different => first,
         }
     }
 }

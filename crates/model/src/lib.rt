@@ -1,6 +1,7 @@
 #![tactic(auto)]
 
 mod draft;
+mod entries;
 pub mod fault;
 mod fill;
 mod form;

@@ -6,9 +6,9 @@ ghost use Rattle.model.specs.Meaning.{means, windows, records};
 ghost use Rattle.model.specs.Promises.{Reads, Shows, fresh};
 
 use super::Model;
-use crate::draft::Stored;
+use crate::draft::{Draft, Stored};
 use crate::fault::ModelFault;
-use crate::read::{draft_of, empty};
+use crate::read::draft_of;
 use crate::values::{Term, Window};
 use bits::Set;
 
@@ -32,8 +32,8 @@ impl Model {
     pub fn fresh() -> Model
         ensures { means result ≡ fresh }
     {
-        let mut draft = empty();
-        draft.variables = 1;
+        let mut draft = Draft::empty();
+        draft.windows.push(Window { low: 0, high: 1 });
         Model { draft }
     }
 
@@ -49,29 +49,26 @@ impl Model {
     pub fn variables(&self) -> usize
         ensures { result ≡ length (windows self.now) }
     {
-        self.draft.variables
+        self.draft.windows.len()
     }
 
     pub fn window(&self, x: usize) -> Option<Window>
         ensures { result ≡ slice_get (windows self.now) x }
     {
-        if x >= self.draft.variables {
-            return None;
-        }
-        Some(self.draft.windows[x])
+        self.draft.windows.get(x).copied()
     }
 
     // How many constraint records there are.
     pub fn records(&self) -> usize
         ensures { result ≡ length (records self.now) }
     {
-        self.draft.records
+        self.draft.stored.len()
     }
 
     pub fn constraint(&self, i: usize) -> Option<Constraint<'_>>
         ensures { Shows (records self.now) i result }
     {
-        if i >= self.draft.records {
+        if i >= self.draft.stored.len() {
             return None;
         }
         let stored = self.draft.stored[i];
@@ -90,7 +87,7 @@ impl Model {
     pub fn naming(&self, x: usize) -> Set
         ensures { (i : ℕ) → has result.word i ≡ does_name (records self.now) i x }
     {
-        if x >= self.draft.variables {
+        if x >= self.draft.windows.len() {
             return Set::empty();
         }
         self.draft.naming[x]

@@ -1,11 +1,17 @@
-use Rattle.std.proofs.Common.{◌≡◌, ℕ, ◌+◌, ◌-◌, ◌*◌, ◌<◌, length, drop}
+use Rattle.std.proofs.Common.{◌≡◌, ℕ, ◌*◌, ◌<◌, length}
 use Rattle.std.specs.List.{AllByRecursion}
+use Rattle.std.specs.Slice.Iter.{chunks_exact_rest, chunks_exact_size}
 use Rattle.model.specs.Reading.{variables_in}
 use Rattle.model.proofs.Filling.{noted}
 use Rattle.model.proofs.fill.note_names.Given as goal
 
-abbrev pub invariant-loop-i : goal.invariant-loop-i
-invariant-loop-i l =
-    let rest = variables_in l.each (l.count - l.i) (drop (l.at + l.each * l.i) l.bytes) in
-    AllByRecursion (λ x. x < length l.initial.naming) rest ×
-    ((x r : ℕ) → x < length l.initial.naming → noted l.naming l.«record» rest x r ≡ noted l.initial.naming l.«record» (variables_in l.each l.count (drop l.at l.bytes)) x r)
+abbrev pub invariant-loop-entry : goal.invariant-loop-entry
+invariant-loop-entry l =
+    let rest = chunks_exact_rest l.entry-iterator in
+    record {
+      size : chunks_exact_size l.entry-iterator ≡ l.entries.each;
+      left : ℕ;
+      whole : length rest ≡ l.entries.each * left;
+      below : AllByRecursion (λ x. x < length l.initial.naming) (variables_in l.entries.each left rest);
+      same : (x r : ℕ) → x < length l.initial.naming → noted l.naming l.«record» (variables_in l.entries.each left rest) x r ≡ noted l.initial.naming l.«record» (variables_in l.entries.each l.entries.count l.entries.bytes.now) x r;
+    }

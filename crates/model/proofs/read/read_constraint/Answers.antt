@@ -1,111 +1,41 @@
-use Rattle.std.proofs.Common.{◌≡◌, ℕ, ◌+◌, ◌-◌, ◌*◌, ◌≤◌, false, List, length, get_or, drop, sym, refl, ap, ◌∙◌, ap₂, inl, inr, arith}
-use Rattle.std.proofs.lemmas.List.{get_or-drop, length-drop, drop-drop}
+use Rattle.std.proofs.Common.{◌≡◌, ℕ, ◌+◌, ◌&&◌, ltb, leb, List, length, sym, refl, ap, ◌∙◌, ap₂, arith}
 use Rattle.model.specs.declared.draft.Draft.{Draft}
-use Rattle.model.specs.declared.form.RecordKind.{RecordKind}
-use Rattle.model.specs.declared.form.Shape.{Shape}
-use Rattle.model.specs.Kinds.{shape}
 use Rattle.model.specs.Values.{entries}
-use Rattle.model.specs.Reading.{count, entry_bytes, variables_in, is_named_once, more}
-use Rattle.model.specs.Drafts.{Tidy, drafted}
-use Rattle.model.specs.Scans.{Whole}
-use Rattle.model.proofs.Drafting.{drafted-records, drafted-windows}
-use Rattle.model.proofs.Steps.{crowded_step, variable-step, record_step, whole-size, each-some}
+use Rattle.model.specs.Reading.{count, is_named_once, more}
+use Rattle.model.specs.Drafted.{drafted}
+use Rattle.model.proofs.Drafting.{drafted-records}
+use Rattle.model.proofs.Steps.{crowded_step, variable-step, record_step, names_are}
 use Rattle.model.proofs.read.read_constraint.Goals as goal
-use Rattle.model.proofs.read.read_constraint.Goals.{then-draft-ge64-via-then-draft-ge64, then-draft-ge64-via-else-draft-ge64+then-count-draft}
 
--- a whole record at an offset of the bytes
-module _ (bs : List ℕ) (at : ℕ) (k : RecordKind) (w : Whole false (drop at bs) k) where
-  counts : count (drop at bs) ≡ get_or bs (at + 4) 0
-  counts = get_or-drop at bs 4 0
+-- the room in the draft, as the rows ask for it
+room : (d : Draft) (left : List ℕ) (n : ℕ) → n ≡ count left → (ltb (length (drafted d).records) 64 && leb (entries (drafted d).records + count left) 1024) ≡ (ltb (length d.stored.items) 64 && leb (length d.terms.items + length d.distinct.items + n) 1024)
+room d left n e = ap₂ (λ (a b : ℕ). ltb a 64 && leb b 1024) (drafted-records d) (ap₂ (λ (a b : ℕ). a + b) d.entries (sym e))
 
-  ends : at + (4 + (shape k).before) + (shape k).each * get_or bs (at + 4) 0 ≤ length bs
-  ends =
-      let p : (shape k).each * count (drop at bs) ≡ (shape k).each * get_or bs (at + 4) 0 = ap (λ (n : ℕ). (shape k).each * n) counts in
-      omega (arith, (whole-size false (drop at bs) k w).0, length-drop at bs)
-
-  -- the variables that it names, as the loop reads them
-  module _ (d : Draft) (t : Tidy d) where
-    reads_names : (s : Shape) → s ≡ shape k → is_named_once d.variables (variables_in s.each (get_or bs (at + 4) 0) (drop (at + (4 + s.before)) bs)) ≡ is_named_once (length (drafted d).windows) (variables_in (shape k).each (count (drop at bs)) (entry_bytes k (drop at bs)))
-    reads_names s e =
-        ap (λ (z : Shape). is_named_once d.variables (variables_in z.each (get_or bs (at + 4) 0) (drop (at + (4 + z.before)) bs))) e
-        ∙ ap (λ (n : ℕ). is_named_once n (variables_in (shape k).each (get_or bs (at + 4) 0) (drop (at + (4 + (shape k).before)) bs))) (sym (drafted-windows d t))
-        ∙ ap₂ (λ (n : ℕ) (xs : List ℕ). is_named_once (length (drafted d).windows) (variables_in (shape k).each n xs)) (sym counts) (sym (drop-drop (4 + (shape k).before) at bs))
-
-pub bounds-bytes-at : goal.bounds-bytes-at
-bounds-bytes-at c = omega (arith, ends c.args.bytes.now c.args.at c.in_ok-kind.kind c.in_ok-kind.ensures.opens, (each-some c.in_ok-kind.kind).1)
-
-pub returns-then-draft-ge64 : goal.returns-then-draft-ge64
-returns-then-draft-ge64 c =
+pub returns-then-not-has_room : goal.returns-then-not-has_room
+returns-then-not-has_room c =
     let d = c.args.draft.now in
-    let bs = c.args.bytes.now in
-    let k = c.in_ok-kind.kind in
-    let w = c.in_ok-kind.ensures.opens in
-    let n = counts bs c.args.at k w in
-    let t = c.requires.0 in
-    elim c.then-draft-ge64.branch [
-      | then-draft-ge64-via-then-draft-ge64 v ↦ (refl, crowded_step (drop c.args.at bs) k w (drafted d) (inl (omega (arith, drafted-records d t, v.if-draft-ge64.true))))
-      | then-draft-ge64-via-else-draft-ge64+then-count-draft v ↦ (refl, crowded_step (drop c.args.at bs) k w (drafted d) (inr (omega (arith, t.entries, n, v.if-count-draft.true))))
-    ]
-
-pub named_once-requires : goal.named_once-requires
-named_once-requires c =
-    let k = c.in_ok-kind.kind in
-    let e = ends c.args.bytes.now c.args.at k c.in_ok-kind.ensures.opens in
-    let n = get_or c.args.bytes.now (c.args.at + 4) 0 in
-    let s = c.shape-shape.ensures in
-    let p : c.shape-shape.result.each * n ≡ (shape k).each * n = ap (λ (z : Shape). z.each * n) s in
-    let q : c.shape-shape.result.each ≡ (shape k).each = ap (λ (z : Shape). z.each) s in
-    let r : c.shape-shape.result.before ≡ (shape k).before = ap (λ (z : Shape). z.before) s in
-    (omega (arith, e, p, r), (omega (arith, q, (each-some k).0), c.requires.0.variables))
-
--- the tests that were passed, over what is drafted
-module _ (d : Draft) (t : Tidy d) (bs : List ℕ) (at : ℕ) (k : RecordKind) (w : Whole false (drop at bs) k) (few : get_or bs (at + 4) 0 ≤ 1024 - (d.summed + d.listed)) where
-  most : entries (drafted d).records + count (drop at bs) ≤ 1024
-  most = omega (arith, t.entries, t.most, counts bs at k w)
+    let left = c.args.left.now in
+    (refl, crowded_step left c.in_ok-kind.kind c.in_ok-kind.ensures.opens (drafted d) (room d left _ c.of-entries.ensures.number ∙ sym c.if-not-has_room.ensures))
 
 pub returns-then-not-named_once : goal.returns-then-not-named_once
 returns-then-not-named_once c =
     let d = c.args.draft.now in
-    let bs = c.args.bytes.now in
-    let at = c.args.at in
+    let left = c.args.left.now in
     let k = c.in_ok-kind.kind in
-    let w = c.in_ok-kind.ensures.opens in
-    let t = c.requires.0 in
-    (refl, variable-step (drop at bs) (drafted d) (omega (arith, drafted-records d t, c.if-draft-ge64.false)) (most d t bs at k w c.if-count-draft.false) k w (sym (c.if-not-named_once.ensures ∙ reads_names bs at k w d t c.shape-shape.result c.shape-shape.ensures)))
-
-pub add_record-requires : goal.add_record-requires
-add_record-requires c =
-    let d = c.args.draft.now in
-    let bs = c.args.bytes.now in
-    let at = c.args.at in
-    let k = c.in_ok-kind.kind in
-    let w = c.in_ok-kind.ensures.opens in
-    let t = c.requires.0 in (
-      record {
-        tidy = t;
-        room = c.if-draft-ge64.false;
-        most = omega (arith, most d t bs at k w c.if-count-draft.false, t.entries, counts bs at k w);
-        whole = ends bs at k w;
-        is = sym (counts bs at k w);
-        named = ap (λ (z : Shape). is_named_once d.variables (variables_in z.each (get_or bs (at + 4) 0) (drop (at + (4 + z.before)) bs))) (sym c.shape-shape.ensures) ∙ sym c.if-not-named_once.ensures;
-      },
-      w.placed,
-    )
-
-pub word_at-requires : goal.word_at-requires
-word_at-requires c = omega (arith, ends c.args.bytes.now c.args.at c.in_ok-kind.kind c.in_ok-kind.ensures.opens)
+    let a = c.of-entries.ensures in
+    let named = c.if-not-named_once.ensures ∙ ap₂ (λ (n : ℕ) (xs : List ℕ). is_named_once n xs) c.len.ensures.value (names_are k left _ a) in
+    (refl, variable-step left (drafted d) (room d left _ a.number ∙ sym c.if-not-has_room.ensures) k c.in_ok-kind.ensures.opens (sym named))
 
 pub returns : goal.returns
 returns c =
     let d = c.args.draft.now in
-    let bs = c.args.bytes.now in
-    let at = c.args.at in
+    let left = c.args.left.now in
     let k = c.in_ok-kind.kind in
+    let a = c.of-entries.ensures in
     let w = c.in_ok-kind.ensures.opens in
-    let t = c.requires.0 in
+    let named = c.if-not-named_once.ensures ∙ ap₂ (λ (n : ℕ) (xs : List ℕ). is_named_once n xs) c.len.ensures.value (names_are k left _ a) in
     record {
-      tidy = c.add_record.ensures.tidy;
-      step = record_step (drop at bs) (drafted d) (omega (arith, drafted-records d t, c.if-draft-ge64.false)) (most d t bs at k w c.if-count-draft.false) k w (sym (c.if-not-named_once.ensures ∙ reads_names bs at k w d t c.shape-shape.result c.shape-shape.ensures)) ∙ ap more (sym c.add_record.ensures.means);
-      offset = ap (λ (n : ℕ). at + (4 + n)) c.word_at.ensures;
-      within = omega (arith, w.ended, length-drop at bs, c.word_at.ensures, c.requires.1);
+      step = record_step left (drafted d) (room d left _ a.number ∙ sym c.if-not-has_room.ensures) k w (sym named) ∙ ap more (sym c.add.ensures);
+      is = ap (λ (n : ℕ). 4 + n) c.word.ensures;
+      within = omega (arith, w.ended, c.word.ensures);
     }

@@ -1,35 +1,49 @@
-use Rattle.std.proofs.Common.{◌≡◌, ◌+◌, true, get_or, take, drop, sym, ap, ◌∙◌, arith}
-use Rattle.std.proofs.lemmas.List.{take_at}
+use Rattle.std.proofs.Common.{◌≡◌, true, [], ◌++◌, List, length, sym, refl, ap, ◌∙◌, arith}
+use Rattle.std.proofs.lemmas.List.{length-append}
+use Rattle.model.specs.declared.values.Window.{Window}
 use Rattle.model.specs.declared.form.RecordKind.TheVariants.{Windows}
-use Rattle.model.specs.Reading.{more, window_at, windows_in}
-use Rattle.model.specs.Drafts.{drafted}
-use Rattle.model.proofs.Entries.{length-entries}
-use Rattle.model.proofs.Steps.{windows-whole, windows-step, whole-size}
+use Rattle.model.specs.Reading.{more, window_at, windows_in, count, entry_bytes, do_windows_fit}
+use Rattle.model.specs.Drafted.{drafted}
+use Rattle.model.specs.Scans.{read_by}
+use Rattle.model.proofs.EntryBytes.{length-entries}
+use Rattle.model.proofs.Steps.{windows_are, windows-whole, windows-step, window_step, whole-size}
 use Rattle.model.proofs.read.read_windows.Goals as goal
 
-pub returns : goal.returns
-returns c =
+pub returns-then-not-windows_fit-clause-reads : goal.returns-then-not-windows_fit-clause-reads
+returns-then-not-windows_fit-clause-reads c =
     let d = c.args.draft.now in
     let bs = c.args.bytes.now in
-    let t = c.requires.0 in
-    let w = windows-whole bs (drafted d) c.in_ok-record_at.field-0 c.in_ok-record_at.ensures.opens in
-    let n = get_or bs 4 0 in
-    let new = windows_in n (drop 5 bs) in
-    let taken : take n c.fill.new.entries ≡ new = ap (take n) c.fill.ensures ∙ take_at new (drop (0 + n) d.windows) n (length-entries window_at 2 n (drop 5 bs)) in
+    let o = c.in_ok-kind.ensures.opens in
+    (refl, window_step bs (drafted d) (windows-whole bs (drafted d) _ o) (sym (c.if-not-windows_fit.ensures ∙ ap do_windows_fit (windows_are bs _ _ o c.of-windows.ensures))))
+
+pub invariant_of-draft : goal.invariant_of-draft
+invariant_of-draft c =
+    let d = c.args.draft.now in
+    let bs = c.args.bytes.now in
+    let o = c.in_ok-kind.ensures.opens in
+    let none : d.windows.items ≡ [] = ap (λ m. m.windows) c.requires in
+    let e = c.of-windows.result in
     record {
-      reads = record {
-        tidy = record {
-          long = (c.fill.auto.entries ∙ t.long.0, t.long.1, t.long.2, t.long.3, t.long.4);
-          variables = (whole-size true bs Windows w).1;
-          records = t.records;
-          entries = t.entries;
-          most = t.most;
-          placed = t.placed;
-          noted = t.noted;
-        };
-        step = windows-step bs (drafted d) w (sym c.if-not-windows_fit.ensures) ∙ ap (λ ws. more (record { windows = ws; records = (drafted d).records })) (sym taken);
-        offset = omega (arith, c.word_at.ensures);
-        within = omega (arith, w.ended, c.word_at.ensures);
-      };
-      bytes = λ i. (c.type_inv.bytes i).fits;
+      long = d.long;
+      variables = omega (arith, ap length c.fill.ensures, length-append d.windows.items (read_by window_at e), ap length none, length-entries window_at e.each e.count e.bytes.now, c.of-windows.ensures.number, (whole-size true bs _ o).1);
+      few = d.few;
+      entries = d.entries;
+      most = d.most;
+      placed = d.placed;
+      noted = d.noted;
+    }
+
+pub returns-clause-reads : goal.returns-clause-reads
+returns-clause-reads c =
+    let d = c.args.draft.now in
+    let bs = c.args.bytes.now in
+    let o = c.in_ok-kind.ensures.opens in
+    let e = c.of-windows.result in
+    let are = windows_are bs _ e o c.of-windows.ensures in
+    let none : d.windows.items ≡ [] = ap (λ m. m.windows) c.requires in
+    let ws : windows_in (count bs) (entry_bytes Windows bs) ≡ c.fill.new.items.items = sym (c.fill.ensures ∙ ap (λ (old : List Window). old ++ read_by window_at e) none ∙ are) in
+    record {
+      step = windows-step bs (drafted d) (windows-whole bs (drafted d) _ o) (sym (c.if-not-windows_fit.ensures ∙ ap do_windows_fit are)) ∙ ap (λ (xs : List Window). more (record { windows = xs; records = (drafted d).records })) ws;
+      is = omega (arith, c.word.ensures);
+      within = omega (arith, o.ended, c.word.ensures);
     }

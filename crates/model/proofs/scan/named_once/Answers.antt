@@ -1,57 +1,61 @@
-use Rattle.std.proofs.Common.{◌≡◌, ℕ, ◌+◌, ◌-◌, ◌*◌, ◌<◌, Bool, ◌&&◌, List, ◌∷◌, get_or, drop, sym, ap, ◌∙◌, add-zero, arith}
-use Rattle.std.proofs.lemmas.List.{get_or-drop}
+use Rattle.std.proofs.Common.{◌≡◌, ℕ, ◌&&◌, List, get_or, sym, ap, ◌∙◌, arith, rules}
+use Rattle.std.specs.Slice.Iter.{chunks_exact_rest}
 use Rattle.bits.specs.Bit.{has}
-use Rattle.model.specs.Reading.{variable_at, variables_in, is_named_once}
-use Rattle.model.proofs.Scanning.{is_fresh, entries_next, entries_start, named-next, named_beyond, named_again, named_start, entry-within}
+use Rattle.model.specs.Reading.{variables_in, is_named_once}
+use Rattle.model.proofs.Fronts.{next_variable, none}
+use Rattle.model.proofs.Scanning.{is_fresh, named-next, named_beyond, named_again, named_start}
 use Rattle.model.proofs.scan.named_once.Goals as goal
 use Rattle.model.proofs.scan.named_once.Goals.{then-x-variables-via-then-x-variables, then-x-variables-via-else-x-variables+then-has}
 
-pub loop-i-init : goal.loop-i-init
-loop-i-init c = named_start c.args.variables (has c.empty-seen.result.word) _ _ c.empty-seen.ensures (entries_start variable_at c.args.each c.args.bytes.now c.args.at c.args.count)
-
-pub overflow_mul-x : goal.overflow_mul-x
-overflow_mul-x c = record { fits = omega (arith, entry-within c.args.each c.args.count c.loop-i.i c.loop-i-test.true) }
-
-pub overflow_add-x : goal.overflow_add-x
-overflow_add-x c = record { fits = omega (arith, entry-within c.args.each c.args.count c.loop-i.i c.loop-i-test.true) }
-
-pub bounds-bytes-at : goal.bounds-bytes-at
-bounds-bytes-at c = omega (arith, entry-within c.args.each c.args.count c.loop-i.i c.loop-i-test.true)
-
-abbrev rest : List ℕ → ℕ → ℕ → ℕ → ℕ → List ℕ
-rest bs at each count i = variables_in each (count - i) (drop (at + each * i) bs)
-
--- the invariant, with the entry at hand taken apart
-met : (seen : ℕ → Bool) (n : ℕ) (bs : List ℕ) (at each count i : ℕ) → i < count → (is_fresh seen (rest bs at each count i) && is_named_once n (rest bs at each count i)) ≡ (is_fresh seen (get_or bs (at + each * i) 0 ∷ rest bs at each count (i + 1)) && is_named_once n (get_or bs (at + each * i) 0 ∷ rest bs at each count (i + 1)))
-met seen n bs at each count i lt =
-    let e = entries_next variable_at each bs at count i lt in
-    let d : get_or (drop (at + each * i) bs) 0 0 ≡ get_or bs (at + each * i) 0 = get_or-drop (at + each * i) bs 0 0 ∙ ap (λ (k : ℕ). get_or bs k 0) (add-zero (at + each * i)) in
-    ap (λ (xs : List ℕ). is_fresh seen xs && is_named_once n xs) (e ∙ ap (λ (x : ℕ). x ∷ rest bs at each count (i + 1)) d)
+pub loop-entry-init : goal.loop-entry-init
+loop-entry-init c =
+    let e = c.args.entries.now in
+    let r : chunks_exact_rest c.into_iter-entry-iterator.result ≡ e.bytes.now = search rules in
+    record {
+      size = search rules;
+      left = e.count;
+      whole = search rules;
+      named = named_start c.args.variables (has c.empty-seen.result.word) _ _ c.empty-seen.ensures (ap (variables_in e.each e.count) r);
+    }
 
 pub returns-then-x-variables : goal.returns-then-x-variables
 returns-then-x-variables c =
-    let bs = c.args.bytes.now in
-    let at = c.args.at in
-    let each = c.args.each in
-    let count = c.args.count in
-    let i = c.loop-i.i in
+    let e = c.args.entries.now in
+    let i = c.loop-entry.invariant in
+    let s = c.in-Some.ensures.steps.1 in
+    let q = next_variable e.each e.some i.left _ _ _ i.whole s.0 (s.1 ∙ i.size) in
     let n = c.args.variables in
-    let seen = has c.loop-i.seen.word in
-    let m = met seen n bs at each count i c.loop-i-test.true in
+    let seen = has c.loop-entry.seen.word in
+    let x = get_or c.in-Some.entry.now 0 0 in
+    let rest = variables_in e.each q.left (chunks_exact_rest c.next.new.self) in
+    let m = ap (λ (xs : List ℕ). is_fresh seen xs && is_named_once n xs) q.reads in
     elim c.then-x-variables.branch [
-      | then-x-variables-via-then-x-variables w ↦ sym (m ∙ named_beyond n seen (get_or bs (at + each * i) 0) (rest bs at each count (i + 1)) w.if-x-variables.true) ∙ c.loop-i.invariant
-      | then-x-variables-via-else-x-variables+then-has w ↦ sym (m ∙ named_again n seen (get_or bs (at + each * i) 0) (rest bs at each count (i + 1)) (sym w.has.ensures ∙ w.if-has.true)) ∙ c.loop-i.invariant
+      | then-x-variables-via-then-x-variables w ↦ sym (m ∙ named_beyond n seen x rest w.if-x-variables.true) ∙ i.named
+      | then-x-variables-via-else-x-variables+then-has w ↦ sym (m ∙ named_again n seen x rest (sym w.has.ensures ∙ w.if-has.true)) ∙ i.named
     ]
 
-pub loop-i-preserved : goal.loop-i-preserved
-loop-i-preserved c =
-    let bs = c.args.bytes.now in
-    let at = c.args.at in
-    let each = c.args.each in
-    let count = c.args.count in
-    let i = c.loop-i.i in
+pub loop-entry-preserved : goal.loop-entry-preserved
+loop-entry-preserved c =
+    let e = c.args.entries.now in
+    let i = c.loop-entry.invariant in
+    let s = c.in-Some.ensures.steps.1 in
+    let q = next_variable e.each e.some i.left _ _ _ i.whole s.0 (s.1 ∙ i.size) in
     let n = c.args.variables in
-    let seen = has c.loop-i.seen.word in
-    let x = get_or bs (at + each * i) 0 in
-    let m = met seen n bs at each count i c.loop-i-test.true in
-    sym (m ∙ named-next n seen x (rest bs at each count (i + 1)) (has c.with-seen.result.word) (c.with-seen.ensures.within (omega arith)) c.if-x-variables.false (sym c.has.ensures ∙ c.if-has.false)) ∙ c.loop-i.invariant
+    let seen = has c.loop-entry.seen.word in
+    let x = get_or c.in-Some.entry.now 0 0 in
+    let rest = variables_in e.each q.left (chunks_exact_rest c.next.new.self) in
+    let m = ap (λ (xs : List ℕ). is_fresh seen xs && is_named_once n xs) q.reads in
+    record {
+      size = c.in-Some.ensures.steps.0 ∙ i.size;
+      left = q.left;
+      whole = q.whole;
+      named = sym (m ∙ named-next n seen x rest (has c.with-seen.result.word) (c.with-seen.ensures.within (omega arith)) c.if-x-variables.false (sym c.has.ensures ∙ c.if-has.false)) ∙ i.named;
+    }
+
+pub returns : goal.returns
+returns c =
+    let e = c.args.entries.now in
+    let i = c.loop-entry.invariant in
+    let z = none e.each e.some i.left _ i.whole (omega (arith, c.in-None.ensures.steps.1.0, i.size)) in
+    let all = λ (k : ℕ). variables_in e.each k (chunks_exact_rest c.loop-entry.entry-iterator) in
+    sym (ap (λ (k : ℕ). is_fresh (has c.loop-entry.seen.word) (all k) && is_named_once c.args.variables (all k)) z) ∙ i.named

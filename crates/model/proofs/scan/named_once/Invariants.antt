@@ -1,10 +1,16 @@
-use Rattle.std.proofs.Common.{◌≡◌, ◌+◌, ◌-◌, ◌*◌, ◌&&◌, drop}
+use Rattle.std.proofs.Common.{◌≡◌, ℕ, ◌*◌, ◌&&◌, length}
+use Rattle.std.specs.Slice.Iter.{chunks_exact_rest, chunks_exact_size}
 use Rattle.bits.specs.Bit.{has}
 use Rattle.model.specs.Reading.{variables_in, is_named_once}
 use Rattle.model.proofs.Scanning.{is_fresh}
 use Rattle.model.proofs.scan.named_once.Given as goal
 
-abbrev pub invariant-loop-i : goal.invariant-loop-i
-invariant-loop-i l =
-    let rest = variables_in l.each (l.count - l.i) (drop (l.at + l.each * l.i) l.bytes) in
-    (is_fresh (has l.seen.word) rest && is_named_once l.variables rest) ≡ is_named_once l.variables (variables_in l.each l.count (drop l.at l.bytes))
+abbrev pub invariant-loop-entry : goal.invariant-loop-entry
+invariant-loop-entry l =
+    let rest = chunks_exact_rest l.entry-iterator in
+    record {
+      size : chunks_exact_size l.entry-iterator ≡ l.entries.each;
+      left : ℕ;
+      whole : length rest ≡ l.entries.each * left;
+      named : (is_fresh (has l.seen.word) (variables_in l.entries.each left rest) && is_named_once l.variables (variables_in l.entries.each left rest)) ≡ is_named_once l.variables (variables_in l.entries.each l.entries.count l.entries.bytes.now);
+    }

@@ -1,69 +1,31 @@
-use Rattle.std.proofs.Common.{◌≡◌, ℕ, ◌+◌, List, drop, None, Option, sym, refl, ap, ◌∙◌, arith}
-use Rattle.std.proofs.lemmas.List.{length-drop}
+use Rattle.std.proofs.Common.{◌≡◌, ℕ, true, List, Some, Ok, Err, Result, sym, refl, ap, ◌∙◌, arith}
+use Rattle.std.specs.Prelude.{MatchResult}
+use Rattle.std.specs.Result.{is_ok}
+use Rattle.std.proofs.lemmas.Bool.{true≢false}
+use Rattle.std.proofs.lemmas.List.{take_rest}
+use Rattle.model.specs.declared.fault.ModelFault.{ModelFault}
 use Rattle.model.specs.declared.form.RecordKind.{RecordKind}
-use Rattle.model.specs.Kinds.{kind_of}
+use Rattle.model.specs.declared.form.UnknownKind.{UnknownKind}
+use Rattle.model.specs.Kinds.{kind_of, IsKind}
 use Rattle.model.specs.Reading.{word}
-use Rattle.model.proofs.Heads.{word-later, short_step, known_step, misplaced_step, cut_step, misfit_step}
+use Rattle.model.proofs.Heads.{word-later, cut_step, misfit_step}
 use Rattle.model.proofs.scan.record_at.Goals as goal
 
--- the kind that was looked up is that of the record
-kind_at : (bs : List ℕ) (at w : ℕ) (o : Option RecordKind) → w ≡ word (drop (at + 2) bs) 0 → o ≡ kind_of w → kind_of (word (drop at bs) 2) ≡ o
-kind_at bs at w o e k = ap kind_of (sym (word-later bs at 2) ∙ sym e) ∙ sym k
+-- the kind that was found is that of the number
+found : (n : ℕ) (k : RecordKind) (r : Result RecordKind UnknownKind) (E : UnknownKind → Type 0) → IsKind n r → MatchResult r (λ x. ◌≡◌ {A = Result RecordKind ModelFault} (Ok k) (Ok x)) E → true ≡ is_ok r → kind_of n ≡ Some k
+found n k (Ok x) E i h v = let e : k ≡ x = cc in i ∙ ap Some (sym e)
+found n k (Err e) E i h v = absurd (true≢false v)
 
-pub returns-then-left-lt4 : goal.returns-then-left-lt4
-returns-then-left-lt4 c =
-    let bs = c.args.bytes.now in
-    let at = c.args.at in
-    let n = length-drop at bs in
-    record { opens = (refl, λ m. short_step c.args.first (drop at bs) m (omega arith)); bytes = λ i. (c.type_inv.bytes i).fits }
+pub returns-then-left-length-clause-opens : goal.returns-then-left-length-clause-opens
+returns-then-left-length-clause-opens c =
+    let left = c.args.left.now in
+    let k = found c.word.result c.in_ok-kind.kind _ _ c.try_from.ensures c.in_ok-kind.ensures.cases c.in_ok-kind.ensures.variant in
+    let w = c.word.ensures ∙ ap (λ (bs : List ℕ). word bs 0) (take_rest left 2) ∙ word-later left 2 0 in
+    (refl, λ m. cut_step c.args.first left m c.in_ok-kind.kind c.if-left-lt4.false (ap kind_of (sym w) ∙ k) (sym c.if-misplaced.ensures) (omega arith))
 
-pub returns-in_default : goal.returns-in_default
-returns-in_default c =
-    let bs = c.args.bytes.now in
-    let at = c.args.at in
-    let n = length-drop at bs in
-    let k = kind_at bs at c.word_at.result None c.word_at.ensures c.in_default.ensures in
-    record { opens = (refl, λ m. known_step c.args.first (drop at bs) m None (omega arith) k); bytes = λ i. (c.type_inv.bytes i).fits }
-
-pub returns-then-misplaced : goal.returns-then-misplaced
-returns-then-misplaced c =
-    let bs = c.args.bytes.now in
-    let at = c.args.at in
-    let n = length-drop at bs in
-    let k = kind_at bs at c.word_at.result _ c.word_at.ensures c.in-Some.ensures in
-    record { opens = (refl, λ m. misplaced_step c.args.first (drop at bs) m c.in-Some.kind (omega arith) k (sym c.if-misplaced.ensures)); bytes = λ i. (c.type_inv.bytes i).fits }
-
-pub returns-then-left-length : goal.returns-then-left-length
-returns-then-left-length c =
-    let bs = c.args.bytes.now in
-    let at = c.args.at in
-    let n = length-drop at bs in
-    let e = c.word_at-length.ensures in
-    let k = kind_at bs at c.word_at.result _ c.word_at.ensures c.in-Some.ensures in
-    record { opens = (refl, λ m. cut_step c.args.first (drop at bs) m c.in-Some.kind (omega arith) k (sym c.if-misplaced.ensures) (omega arith)); bytes = λ i. (c.type_inv.bytes i).fits }
-
-pub returns-then-misfits : goal.returns-then-misfits
-returns-then-misfits c =
-    let bs = c.args.bytes.now in
-    let at = c.args.at in
-    let n = length-drop at bs in
-    let e = c.word_at-length.ensures in
-    let k = kind_at bs at c.word_at.result _ c.word_at.ensures c.in-Some.ensures in
-    record { opens = (refl, λ m. misfit_step c.args.first (drop at bs) m c.in-Some.kind (omega arith) k (sym c.if-misplaced.ensures) (omega arith) (sym c.if-misfits.ensures)); bytes = λ i. (c.type_inv.bytes i).fits }
-
-pub returns : goal.returns
-returns c =
-    let bs = c.args.bytes.now in
-    let at = c.args.at in
-    let n = length-drop at bs in
-    let e = c.word_at-length.ensures in
-    record {
-      opens = record {
-        headed = omega arith;
-        known = kind_at bs at c.word_at.result _ c.word_at.ensures c.in-Some.ensures;
-        placed = sym c.if-misplaced.ensures;
-        ended = omega arith;
-        fits = sym c.if-misfits.ensures;
-      };
-      bytes = λ i. (c.type_inv.bytes i).fits;
-    }
+pub returns-then-misfits-clause-opens : goal.returns-then-misfits-clause-opens
+returns-then-misfits-clause-opens c =
+    let left = c.args.left.now in
+    let k = found c.word.result c.in_ok-kind.kind _ _ c.try_from.ensures c.in_ok-kind.ensures.cases c.in_ok-kind.ensures.variant in
+    let w = c.word.ensures ∙ ap (λ (bs : List ℕ). word bs 0) (take_rest left 2) ∙ word-later left 2 0 in
+    (refl, λ m. misfit_step c.args.first left m c.in_ok-kind.kind c.if-left-lt4.false (ap kind_of (sym w) ∙ k) (sym c.if-misplaced.ensures) (omega arith) (sym c.if-misfits.ensures))

@@ -9,7 +9,7 @@ use Rattle.model.specs.declared.values.Window.{Window}
 use Rattle.model.specs.declared.values.Term.{Term}
 use Rattle.model.specs.Values.{Distinct, WindowValid}
 use Rattle.model.specs.Layout.{two_bytes, four_bytes, window_bytes, term_bytes}
-use Rattle.model.specs.Reading.{word, entries_in, windows_in, terms_in, variables_in, do_windows_fit, among, is_named_once}
+use Rattle.model.specs.Reading.{word, entries_in, term_at, windows_in, terms_in, variables_in, do_windows_fit, among, is_named_once}
 use Rattle.model.specs.Layout.{Bytes}
 
 -- numbers
@@ -94,9 +94,9 @@ terms-sized zero bs = tt
 terms-sized (suc n) bs = (read_sfits w16 (word bs 1), terms-sized n (drop 3 bs))
 
 -- the first bytes of terms are their variables
-pub terms-names : (n : ℕ) (bs : List ℕ) → map (λ t. t.variable) (terms_in n bs) ≡ variables_in 3 n bs
-terms-names zero bs = refl
-terms-names (suc n) bs = ap (λ (xs : List ℕ). get_or bs 0 0 ∷ xs) (terms-names n (drop 3 bs))
+pub terms-names : (each n : ℕ) (bs : List ℕ) → map (λ t. t.variable) (entries_in term_at each n bs) ≡ variables_in each n bs
+terms-names each zero bs = refl
+terms-names each (suc n) bs = ap (λ (xs : List ℕ). get_or bs 0 0 ∷ xs) (terms-names each n (drop each bs))
 
 -- listed variables
 
