@@ -11,5 +11,5 @@ returns g c = λ sound room.
     let word = c.in_ok-word.word in
     let cells = (g.S.Store.rows c.args.self.now.store).row in
     let fits : word < 2 ^ 64 = search rules in
-    let is : c.of.result.word ≡ word = ap (λ (s : Set). s.word) c.of.ensures in
+    let is : c.from.result.word ≡ word = ap (λ (s : Set). s.word) c.from.ensures in
     (c.if-x-self.false, is ∙ read.1, ap has is ∙ cell_is_domain c.args.self.now.variables digits cells c.args.x word c.if-x-self.false (subst (λ k. word < 2 ^ k) (sym digits_are) fits) read.1)
