@@ -198,7 +198,6 @@ rising-mark starts used r =
 
 -- what a restore finds below the newest mark, which begins at `from`
 pub record Below (es : List Entry) (starts rest : List ℕ) (from used : ℕ) (cs : List Cell) : Type 0 where
-  pub le : from ≤ used
   pub saved : saved_rows (spans es starts (length starts) used) cs ≡ values (undone (span es from (used - from)) cs) ∷ saved_rows (spans es rest (length rest) from) (undone (span es from (used - from)) cs)
   pub rising : Rising rest (length rest) from
   pub fine : Fine (spans es rest (length rest) from) (undone (span es from (used - from)) cs)
@@ -213,7 +212,6 @@ below es starts rest from used cs q r f =
     let f' : Fine (span es from (used - from) ∷ spans es rest (length rest) from) cs = subst (λ (ss : List (List Entry)). Fine ss cs) all f in
     let r' : (from ≤ used) × Rising starts (length rest) from = rw a at (rw n at r) in
     record {
-      le = r'.0;
       saved = ap (λ (ss : List (List Entry)). saved_rows ss cs) all;
       rising = subst (λ (T : Type 0). T) rs r'.1;
       fine = f'.1;
@@ -271,11 +269,13 @@ pub sound : (t : Trail) → Rising t.starts.items (length t.starts.items) t.used
 sound t r f = record { cells = t.row; room = t.room; deep = t.deep; marks = t.few; rising = r; fine = f }
 
 -- a trail is known by its fields
-pub same : (t : Trail) (starts : ArrayVec ℕ) (row : t.size ≤ length t.cells.now) (room : t.size * t.depth ≤ length t.entries.now) (deep : t.depth ≤ 65) (few : length starts.items ≤ t.depth) (in_use : t.used ≤ length t.entries.now) → starts ≡ t.starts
-    → record { cells = t.cells; entries = t.entries; size = t.size; depth = t.depth; used = t.used; starts = starts; row = row; room = room; deep = deep; few = few; in_use = in_use } ≡ t
-same t starts row room deep few in_use q =
-    let P : ArrayVec ℕ → Type 0 = λ v. (few : length v.items ≤ t.depth) → record { cells = t.cells; entries = t.entries; size = t.size; depth = t.depth; used = t.used; starts = v; row = row; room = room; deep = deep; few = few; in_use = in_use } ≡ t in
-    subst P (sym q) (λ few i. record {
+pub same : (t : Trail) (starts : ArrayVec ℕ) (row : t.size ≤ length t.cells.now) (room : t.size * t.depth ≤ length t.entries.now) (deep : t.depth ≤ 65) (few : length starts.items ≤ t.depth) (in_use : t.used ≤ length t.entries.now)
+    (begun : (k : ℕ) → k < length starts.items → get_or starts.items k 0 ≤ length t.entries.now) → starts ≡ t.starts
+    → record { cells = t.cells; entries = t.entries; size = t.size; depth = t.depth; used = t.used; starts = starts; row = row; room = room; deep = deep; few = few; in_use = in_use; begun = begun } ≡ t
+same t starts row room deep few in_use begun q =
+    let P : ArrayVec ℕ → Type 0 = λ v. (few : length v.items ≤ t.depth) (begun : (k : ℕ) → k < length v.items → get_or v.items k 0 ≤ length t.entries.now)
+    → record { cells = t.cells; entries = t.entries; size = t.size; depth = t.depth; used = t.used; starts = v; row = row; room = room; deep = deep; few = few; in_use = in_use; begun = begun } ≡ t in
+    subst P (sym q) (λ few begun i. record {
       cells = t.cells;
       entries = t.entries;
       size = t.size;
@@ -287,4 +287,5 @@ same t starts row room deep few in_use q =
       deep = le_prop deep t.deep i;
       few = le_prop few t.few i;
       in_use = le_prop in_use t.in_use i;
-    }) few
+      begun = λ k h. le_prop (begun k h) (t.begun k h) i;
+    }) few begun

@@ -1,4 +1,4 @@
-ghost use Rattle.std.specs.Prelude.{◌≡◌, ◌*◌, ◌≤◌, ◌++◌, length, drop, replicate};
+ghost use Rattle.std.specs.Prelude.{◌≡◌, ℕ, ◌*◌, ◌<◌, ◌≤◌, ◌++◌, length, drop, replicate, slice_index};
 ghost use Rattle.stores.specs.Rows.{size_for, fresh, Writes, Marks, Restores, Keeps, Unaltered};
 ghost use Rattle.stores.specs.Entries.{blank};
 
@@ -38,6 +38,7 @@ pub struct Trail<'a> {
     ghost deep: { depth ≤ 65 },
     ghost few: { length starts.items ≤ depth },
     ghost in_use: { used ≤ length entries.now },
+    ghost begun: { (k : ℕ) → k < length starts.items → slice_index starts.items k ≤ length entries.now },
 }
 
 impl<'a> Trail<'a> {
@@ -67,15 +68,16 @@ impl<'a> Trail<'a> {
 
     // Takes the entries from `from` on back off, newest first, and puts back what they hold.
     fn undo(&mut self, from: usize)
+        requires { from ≤ length self.old.entries.now }
         ensures { Undid self.old from self.new }
     {
-        while self.used > from {
-            self.used -= 1;
-            let Entry { cell, value, stamp } = self.entries[self.used];
+        for last in (from..self.used).rev() {
+            let Entry { cell, value, stamp } = self.entries[last];
             if cell < self.size {
                 self.cells[cell] = Cell { value, stamp };
             }
         }
+        self.used = from;
     }
 }
 
