@@ -1,13 +1,19 @@
 -- What undoing entries does to cells, what a write, a mark and a restore leave to undo, and why the entries suffice.
-use Rattle.std.proofs.Common.{◌≡◌, ℕ, zero, suc, ◌+◌, ◌-◌, ◌*◌, ◌<◌, ◌≤◌, true, false, cond, eqb, ◌≢◌, List, [], ◌∷◌, length, get_or, set, sym, refl, ap, ◌∙◌, subst, inl, inr, ⊎_elim, mul-le-mul_left, mul-suc, arith, length-set, get_or-set_other, get_or-set_same, set-set, eq-eqb, ne_eqb}
+use Rattle.std.proofs.Common.{◌≡◌, ℕ, zero, suc, ◌+◌, ◌-◌, ◌*◌, ◌<◌, ◌≤◌, true, false, cond, eqb, ◌≢◌, List, [], ◌∷◌, ◌++◌, length, get_or, set, sym, refl, ap, ◌∙◌, subst, inl, inr, ⊎_elim, mul-le-mul_left, mul-suc, arith, length-append, length-set, get_or-set_other, get_or-set_same, set-set, eq-eqb, ne_eqb}
 use lib.Seq.{set_comm, set-get_or}
+use native.Mathlib.Nat.{sub_self}
+use Rattle.std.proofs.Math.ListN.{get_or-append}
+use Rattle.std.proofs.Math.Seq.{get_or-append_seam}
+use Rattle.arrayvec.specs.ArrayVec.{ArrayVec}
+use Rattle.std.specs.Coded.{le_prop}
 use Rattle.std.proofs.ByRecursion.{All-get_or, All-set, All-weaker}
 use Rattle.std.proofs.lemmas.List.{length-map, length-take-le, get_or-take}
 use Rattle.std.proofs.lemmas.Bool.{cases_eq}
 use Rattle.stores.specs.declared.trail.Cell.{Cell}
 use Rattle.stores.specs.declared.trail.Entry.{Entry}
 use Rattle.stores.specs.declared.trail.Trail.{Trail}
-use Rattle.stores.specs.Trails.{TrailSound, Within, trail_rows, front, standing, blank, none, values, held, span, spans, undone, saved_rows, Names, stamped, Fine, Rising}
+use Rattle.stores.specs.Entries.{Within, blank, none, values, held, span, spans, undone, saved_rows, Names, stamped, Fine, Rising}
+use Rattle.stores.specs.Trails.{TrailSound, trail_rows, front, standing}
 
 length-undone : (s : List Entry) (cs : List Cell) → length (undone s cs) ≡ length cs
 length-undone [] cs = refl
@@ -41,19 +47,17 @@ spans-set es starts (suc m) used u e r le =
     let b = spans-set es starts m (get_or starts m 0) u e r.1 (omega (arith, r.0)) in
     cc
 
-pub spans-starts : (es : List Entry) (starts : List ℕ) (m used n x : ℕ) → m ≤ n → spans es (set starts n x) m used ≡ spans es starts m used
-spans-starts es starts zero used n x le = refl
-spans-starts es starts (suc m) used n x le =
-    let ne : m ≢ n = omega arith in
-    let a : get_or (set starts n x) m 0 ≡ get_or starts m 0 = get_or-set_other starts n m x 0 ne in
-    rw a (ap (λ (t : List (List Entry)). span es (get_or starts m 0) (used - get_or starts m 0) ∷ t) (spans-starts es starts m (get_or starts m 0) n x (omega arith)))
+pub spans-append : (es : List Entry) (starts more : List ℕ) (m used : ℕ) → m ≤ length starts → spans es (starts ++ more) m used ≡ spans es starts m used
+spans-append es starts more zero used le = refl
+spans-append es starts more (suc m) used le =
+    let a : get_or (starts ++ more) m 0 ≡ get_or starts m 0 = get_or-append starts more 0 m le in
+    rw a (ap (λ (t : List (List Entry)). span es (get_or starts m 0) (used - get_or starts m 0) ∷ t) (spans-append es starts more m (get_or starts m 0) (omega arith)))
 
-pub rising-starts : (starts : List ℕ) (m used n x : ℕ) → m ≤ n → Rising starts m used → Rising (set starts n x) m used
-rising-starts starts zero used n x le r = r
-rising-starts starts (suc m) used n x le r =
-    let ne : m ≢ n = omega arith in
-    let a : get_or (set starts n x) m 0 ≡ get_or starts m 0 = get_or-set_other starts n m x 0 ne in
-    rw a (r.0, rising-starts starts m (get_or starts m 0) n x (omega arith) r.1)
+pub rising-append : (starts more : List ℕ) (m used : ℕ) → m ≤ length starts → Rising (starts ++ more) m used ≡ Rising starts m used
+rising-append starts more zero used le = refl
+rising-append starts more (suc m) used le =
+    let a : get_or (starts ++ more) m 0 ≡ get_or starts m 0 = get_or-append starts more 0 m le in
+    rw a (ap (λ (t : Type 0). (get_or starts m 0 ≤ used) × t) (rising-append starts more m (get_or starts m 0) (omega arith)))
 
 -- one more entry
 spans_push : (es : List Entry) (starts : List ℕ) (m used : ℕ) (e : Entry) → Rising starts (suc m) used → used < length es → spans (set es used e) starts (suc m) (used + 1) ≡ (e ∷ span es (get_or starts m 0) (used - get_or starts m 0)) ∷ spans es starts m (get_or starts m 0)
@@ -179,19 +183,39 @@ opened ss cs f =
     let w : Within (length ss) cs = elim ss as (λ ss. Fine ss cs → Within (length ss) cs) [ [] ↦ λ f. f | s ∷ ss ↦ λ f. f.0.most ] f in
     (record { most = within_more (length ss) cs w; kept = λ i h q. absurd (omega (arith, stamp_within (length ss) cs i h w)); few = omega arith }, f)
 
--- what a restore finds below the newest mark
-abbrev pub Below : List Entry → List ℕ → ℕ → ℕ → List Cell → ℕ → Type 0
-Below es starts n used cs m =
-    (saved_rows (spans es starts n used) cs ≡ values (undone (span es (get_or starts m 0) (used - get_or starts m 0)) cs) ∷ saved_rows (spans es starts m (get_or starts m 0)) (undone (span es (get_or starts m 0) (used - get_or starts m 0)) cs))
-    × (get_or starts m 0 ≤ used)
-    × Rising starts m (get_or starts m 0)
-    × Fine (spans es starts m (get_or starts m 0)) (undone (span es (get_or starts m 0) (used - get_or starts m 0)) cs)
+-- one more mark, which begins where the entries in use end
+pub spans-mark : (es : List Entry) (starts : List ℕ) (used : ℕ) → spans es (starts ++ used ∷ []) (length (starts ++ used ∷ [])) used ≡ [] ∷ spans es starts (length starts) used
+spans-mark es starts used =
+    let n : length (starts ++ used ∷ []) ≡ suc (length starts) = omega (arith, length-append starts (used ∷ [])) in
+    let a : get_or (starts ++ used ∷ []) (length starts) 0 ≡ used = get_or-append_seam starts used [] 0 in
+    rw n (rw a (rw sub_self (ap (λ (ss : List (List Entry)). [] ∷ ss) (spans-append es starts (used ∷ []) (length starts) used (omega arith)))))
 
-pub below : (es : List Entry) (starts : List ℕ) (n used : ℕ) (cs : List Cell) → (n ≡ 0 → ⊥) → Rising starts n used → Fine (spans es starts n used) cs → Below es starts n used cs (n - 1)
-below es starts zero used cs ne r f = absurd (ne refl)
-below es starts (suc m) used cs ne r f =
-    let e : m ≡ suc m - 1 = omega arith in
-    subst (Below es starts (suc m) used cs) e (refl, r.0, r.1, f.1)
+pub rising-mark : (starts : List ℕ) (used : ℕ) → Rising starts (length starts) used → Rising (starts ++ used ∷ []) (length (starts ++ used ∷ [])) used
+rising-mark starts used r =
+    let n : length (starts ++ used ∷ []) ≡ suc (length starts) = omega (arith, length-append starts (used ∷ [])) in
+    let a : get_or (starts ++ used ∷ []) (length starts) 0 ≡ used = get_or-append_seam starts used [] 0 in
+    rw n (rw a (omega arith, rw (rising-append starts (used ∷ []) (length starts) used (omega arith)) r))
+
+-- what a restore finds below the newest mark, which begins at `from`
+pub record Below (es : List Entry) (starts rest : List ℕ) (from used : ℕ) (cs : List Cell) : Type 0 where
+  pub saved : saved_rows (spans es starts (length starts) used) cs ≡ values (undone (span es from (used - from)) cs) ∷ saved_rows (spans es rest (length rest) from) (undone (span es from (used - from)) cs)
+  pub rising : Rising rest (length rest) from
+  pub fine : Fine (spans es rest (length rest) from) (undone (span es from (used - from)) cs)
+
+pub below : (es : List Entry) (starts rest : List ℕ) (from used : ℕ) (cs : List Cell) → starts ≡ rest ++ from ∷ [] → Rising starts (length starts) used → Fine (spans es starts (length starts) used) cs → Below es starts rest from used cs
+below es starts rest from used cs q r f =
+    let n : length starts ≡ suc (length rest) = ap length q ∙ omega (arith, length-append rest (from ∷ [])) in
+    let a : get_or starts (length rest) 0 ≡ from = ap (λ (xs : List ℕ). get_or xs (length rest) 0) q ∙ get_or-append_seam rest from [] 0 in
+    let ss : spans es starts (length rest) from ≡ spans es rest (length rest) from = ap (λ (xs : List ℕ). spans es xs (length rest) from) q ∙ spans-append es rest (from ∷ []) (length rest) from (omega arith) in
+    let rs : Rising starts (length rest) from ≡ Rising rest (length rest) from = ap (λ (xs : List ℕ). Rising xs (length rest) from) q ∙ rising-append rest (from ∷ []) (length rest) from (omega arith) in
+    let all : spans es starts (length starts) used ≡ span es from (used - from) ∷ spans es rest (length rest) from = rw n (rw a (ap (λ (ss : List (List Entry)). span es from (used - from) ∷ ss) ss)) in
+    let f' : Fine (span es from (used - from) ∷ spans es rest (length rest) from) cs = subst (λ (ss : List (List Entry)). Fine ss cs) all f in
+    let r' : (from ≤ used) × Rising starts (length rest) from = rw a at (rw n at r) in
+    record {
+      saved = ap (λ (ss : List (List Entry)). saved_rows ss cs) all;
+      rising = subst (λ (T : Type 0). T) rs r'.1;
+      fine = f'.1;
+    }
 
 -- the entries of the newest mark are no more than the cells with its stamp
 used-top : (es : List Entry) (starts : List ℕ) (m used : ℕ) (cs : List Cell) → Rising starts (suc m) used → Fine (spans es starts (suc m) used) cs → used ≤ get_or starts m 0 + stamped (suc m) cs
@@ -220,28 +244,48 @@ used_less es starts (suc m) used cs i lt ne r f =
     let g : get_or starts m 0 ≤ length cs * m = rw length-undone at h in
     rw mul-suc (omega (arith, used-top es starts m used cs r f, stamped_less (suc m) cs i lt ne))
 
--- of a sound trail: its row has the trail's size, its saved rows are its marks, and its entries suffice
-pub length_front : (t : Trail) → TrailSound t → length (front t) ≡ t.size
-length_front t s = length-take-le t.size t.cells.now s.cells
+-- the row of a trail has its size, its saved rows are its marks, and the entries of a sound one suffice
+pub length_front : (t : Trail) → length (front t) ≡ t.size
+length_front t = length-take-le t.size t.cells.now t.row
 
-pub length-row : (t : Trail) → TrailSound t → length (trail_rows t).row ≡ t.size
-length-row t s = length-map (front t) (λ x. x.value) ∙ length_front t s
+pub length-row : (t : Trail) → length (trail_rows t).row ≡ t.size
+length-row t = length-map (front t) (λ x. x.value) ∙ length_front t
 
-pub length-standing : (t : Trail) → length (standing t) ≡ t.marks
-length-standing t = length-spans t.entries.now t.starts t.marks t.used
+pub length-standing : (t : Trail) → length (standing t) ≡ length t.starts.items
+length-standing t = length-spans t.entries.now t.starts.items (length t.starts.items) t.used
 
-pub length-saved : (t : Trail) → length (trail_rows t).saved ≡ t.marks
-length-saved t = length-saved_rows (standing t) (front t) ∙ length-standing t
+pub marks_saved : (t : Trail) → length (trail_rows t).saved ≡ length t.starts.items
+marks_saved t = length-saved_rows (standing t) (front t) ∙ length-standing t
 
-pub used-fits : (t : Trail) → TrailSound t → t.used ≤ length t.entries.now
-used-fits t s =
-    let h = used-most t.entries.now t.starts t.marks t.used (front t) s.rising s.fine in
-    let k : t.used ≤ t.size * t.marks = rw (length_front t s) at h in
-    omega (arith, mul-le-mul_left t.size s.marks, s.room)
-
-pub room-left : (t : Trail) (i : ℕ) → TrailSound t → i < t.size → ((get_or t.cells.now i blank).stamp ≡ t.marks → ⊥) → t.used < length t.entries.now
+pub room-left : (t : Trail) (i : ℕ) → TrailSound t → i < t.size → ((get_or t.cells.now i blank).stamp ≡ length t.starts.items → ⊥) → t.used < length t.entries.now
 room-left t i s lt ne =
     let g : get_or (front t) i blank ≡ get_or t.cells.now i blank = get_or-take t.size t.cells.now i blank lt in
-    let h = used_less t.entries.now t.starts t.marks t.used (front t) i (omega (arith, length_front t s)) (λ w. ne (ap (λ (c : Cell). c.stamp) (sym g) ∙ w)) s.rising s.fine in
-    let k : t.used < t.size * t.marks = rw (length_front t s) at h in
-    omega (arith, mul-le-mul_left t.size s.marks, s.room)
+    let h = used_less t.entries.now t.starts.items (length t.starts.items) t.used (front t) i (omega (arith, length_front t)) (λ w. ne (ap (λ (c : Cell). c.stamp) (sym g) ∙ w)) s.rising s.fine in
+    let k : t.used < t.size * length t.starts.items = rw (length_front t) at h in
+    omega (arith, mul-le-mul_left t.size t.few, t.room)
+
+-- what makes a trail sound beside what its type keeps
+pub sound : (t : Trail) → Rising t.starts.items (length t.starts.items) t.used → Fine (standing t) (front t) → TrailSound t
+sound t r f = record { cells = t.row; room = t.room; deep = t.deep; marks = t.few; rising = r; fine = f }
+
+-- a trail is known by its fields
+pub same : (t : Trail) (starts : ArrayVec ℕ) (row : t.size ≤ length t.cells.now) (room : t.size * t.depth ≤ length t.entries.now) (deep : t.depth ≤ 65) (few : length starts.items ≤ t.depth) (in_use : t.used ≤ length t.entries.now)
+    (begun : (k : ℕ) → k < length starts.items → get_or starts.items k 0 ≤ length t.entries.now) → starts ≡ t.starts
+    → record { cells = t.cells; entries = t.entries; size = t.size; depth = t.depth; used = t.used; starts = starts; row = row; room = room; deep = deep; few = few; in_use = in_use; begun = begun } ≡ t
+same t starts row room deep few in_use begun q =
+    let P : ArrayVec ℕ → Type 0 = λ v. (few : length v.items ≤ t.depth) (begun : (k : ℕ) → k < length v.items → get_or v.items k 0 ≤ length t.entries.now)
+    → record { cells = t.cells; entries = t.entries; size = t.size; depth = t.depth; used = t.used; starts = v; row = row; room = room; deep = deep; few = few; in_use = in_use; begun = begun } ≡ t in
+    subst P (sym q) (λ few begun i. record {
+      cells = t.cells;
+      entries = t.entries;
+      size = t.size;
+      depth = t.depth;
+      used = t.used;
+      starts = t.starts;
+      row = le_prop row t.row i;
+      room = le_prop room t.room i;
+      deep = le_prop deep t.deep i;
+      few = le_prop few t.few i;
+      in_use = le_prop in_use t.in_use i;
+      begun = λ k h. le_prop (begun k h) (t.begun k h) i;
+    }) few begun

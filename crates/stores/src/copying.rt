@@ -1,9 +1,7 @@
-ghost use Rattle.std.specs.Prelude.{◌≡◌, ◌+◌, ◌≤◌, ◌++◌, length, drop, replicate};
-ghost use Rattle.std.proofs.Math.Seq.{paste};
+ghost use Rattle.std.specs.Prelude.{◌≡◌, ◌+◌, ◌*◌, ◌≤◌, ◌++◌, length, drop, replicate};
 ghost use Rattle.stores.specs.Rows.{size_for, fresh, Writes, Marks, Restores, Keeps, Unaltered};
-ghost use Rattle.stores.specs.Copies.{CopySound, copy_rows, copy_depth, Past};
 
-use crate::opening::{fill, row_size, whole_rows};
+use crate::opening::{row_size, whole_rows};
 use crate::store::{MOST_MARKS, Store, StoreFault};
 
 // A store that copies its row at every mark: the row is the front of the words, and the saved rows follow it, oldest first.
@@ -13,19 +11,16 @@ pub struct Copying<'a> {
     size: usize,
     depth: usize,
     marks: usize,
-}
-
-// Copies `size` words from `from` to `to`, where both lie within the words.
-fn copy(words: &mut [u64], from: usize, to: usize, size: usize)
-    ensures { from + size ≤ length words.old → to + size ≤ length words.old → words.new ≡ paste words.old to (drop from words.old) size }
-{
-    let len = words.len();
-    if from <= len && size <= len - from && to <= len && size <= len - to {
-        words.copy_within(from..from + size, to);
-    }
+    ghost small: { size ≤ 256 },
+    ghost deep: { depth ≤ 65 },
+    ghost few: { marks ≤ depth },
+    // the words hold the row and all that can be saved
+    ghost space: { size * (depth + 1) ≤ length words.now },
 }
 
 impl<'a> Copying<'a> {
+    ghost use Rattle.stores.specs.Copies.{CopySound, copy_rows, copy_depth};
+
     // Opens a store over the words, with a row of zeros of at most the size wanted and no row saved.
     pub fn open(words: &'a mut [u64], wanted: usize) -> Copying<'a>
         ensures sound { CopySound result }
@@ -37,7 +32,7 @@ impl<'a> Copying<'a> {
         let depth = whole_rows(words.len(), size)
             .saturating_sub(1)
             .min(MOST_MARKS);
-        fill(words, size, 0);
+        words[..size].fill(0);
         Copying {
             words,
             size,
@@ -47,7 +42,10 @@ impl<'a> Copying<'a> {
     }
 }
 
+#[tactic(auto, using(crate::proofs::Blocks::copies_saved))]
 impl Store for Copying<'_> {
+    ghost use Rattle.stores.specs.Copies.{CopySound, copy_rows, Past};
+
     ghost rows = { copy_rows };
 
     ghost sound = { CopySound };
@@ -65,7 +63,7 @@ impl Store for Copying<'_> {
     }
 
     fn read(&self, cell: usize) -> Result<u64, StoreFault> {
-        if cell >= self.size.min(self.words.len()) {
+        if cell >= self.size {
             return Err(StoreFault::NoCell(cell));
         }
         Ok(self.words[cell])
@@ -77,7 +75,7 @@ impl Store for Copying<'_> {
         ensures past { CopySound self.old → Past self.old self.new }
         ensures lent { self.new.words.ghost_name ≡ self.old.words.ghost_name }
     {
-        if cell >= self.size.min(self.words.len()) {
+        if cell >= self.size {
             return Err(StoreFault::NoCell(cell));
         }
         self.words[cell] = value;
@@ -90,14 +88,12 @@ impl Store for Copying<'_> {
         ensures past { CopySound self.old → Past self.old self.new }
         ensures lent { self.new.words.ghost_name ≡ self.old.words.ghost_name }
     {
-        let size = self.size;
-        let marks = self.marks;
-        if marks >= self.depth {
-            return Err(StoreFault::Deep(marks));
+        if self.marks >= self.depth {
+            return Err(StoreFault::Deep(self.marks));
         }
-        let to = size.saturating_mul(marks + 1);
-        copy(self.words, 0, to, size);
-        self.marks = marks + 1;
+        let to = self.size * (self.marks + 1);
+        self.words.copy_within(..self.size, to);
+        self.marks += 1;
         Ok(())
     }
 
@@ -107,14 +103,12 @@ impl Store for Copying<'_> {
         ensures past { CopySound self.old → Past self.old self.new }
         ensures lent { self.new.words.ghost_name ≡ self.old.words.ghost_name }
     {
-        let size = self.size;
-        let marks = self.marks;
-        if marks == 0 {
+        if self.marks == 0 {
             return Err(StoreFault::NoMark);
         }
-        let from = size.saturating_mul(marks);
-        copy(self.words, from, 0, size);
-        self.marks = marks - 1;
+        let from = self.size * self.marks;
+        self.words.copy_within(from..from + self.size, 0);
+        self.marks -= 1;
         Ok(())
     }
 }

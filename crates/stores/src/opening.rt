@@ -1,5 +1,5 @@
 // What the opening of the two stores has in common.
-ghost use Rattle.std.specs.Prelude.{◌≡◌, ◌/◌, ◌≤◌, ◌++◌, length, drop, replicate};
+ghost use Rattle.std.specs.Prelude.{◌≡◌, ◌/◌};
 ghost use Rattle.stores.specs.Rows.{size_for};
 
 use crate::store::MOST_CELLS;
@@ -16,14 +16,4 @@ pub fn whole_rows(places: usize, size: usize) -> usize
     ensures { result ≡ places / size }
 {
     if size == 0 { 0 } else { places / size }
-}
-
-// Puts `value` into the first `size` places and leaves the rest.
-pub fn fill<T: Copy + Drop>(places: &mut [T], size: usize, value: T)
-    requires { size ≤ length places.old }
-    ensures { places.new ≡ replicate size value ++ drop size places.old }
-{
-    for i in 0..size {
-        places[i] = value;
-    }
 }

@@ -1,6 +1,8 @@
 ghost use Rattle.std.specs.Prelude.{◌≡◌, length};
 ghost use Rattle.stores.specs.Rows.{number, place, Rows, Reads, Writes, Marks, Restores, Keeps, Unaltered};
 
+use faults::Fault;
+
 // The longest row that a store opens with.
 pub const MOST_CELLS: usize = 256;
 
@@ -18,11 +20,12 @@ pub enum StoreFault {
     NoMark,
 }
 
-impl StoreFault {
-    // The published number of the fault.
-    pub fn number(&self) -> u8
-        ensures { result ≡ number self.now }
-    {
+impl Fault for StoreFault {
+    ghost number = { number };
+
+    ghost place = { place };
+
+    fn number(&self) -> u8 {
         match self {
             StoreFault::NoCell(_) => 11,
             StoreFault::Deep(_) => 12,
@@ -30,13 +33,9 @@ impl StoreFault {
         }
     }
 
-    // The published place of the fault.
-    pub fn place(&self) -> usize
-        ensures { result ≡ place self.now }
-    {
+    fn place(&self) -> usize {
         match self {
-            StoreFault::NoCell(cell) => *cell,
-            StoreFault::Deep(marks) => *marks,
+            StoreFault::NoCell(place) | StoreFault::Deep(place) => *place,
             StoreFault::NoMark => 0,
         }
     }

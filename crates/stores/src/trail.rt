@@ -1,9 +1,10 @@
-ghost use Rattle.std.specs.Prelude.{◌≡◌, ◌≤◌, ◌++◌, length, drop, replicate};
+ghost use Rattle.std.specs.Prelude.{◌≡◌, ℕ, ◌*◌, ◌<◌, ◌≤◌, ◌++◌, length, drop, replicate, slice_index};
 ghost use Rattle.stores.specs.Rows.{size_for, fresh, Writes, Marks, Restores, Keeps, Unaltered};
-ghost use Rattle.stores.specs.Trails.{TrailSound, trail_rows, Past, Undid, blank, trail_depth};
+ghost use Rattle.stores.specs.Entries.{blank};
 
-use crate::opening::{fill, row_size, whole_rows};
+use crate::opening::{row_size, whole_rows};
 use crate::store::{MOST_MARKS, Store, StoreFault};
+use arrayvec::ArrayVec;
 
 // A cell of the row: what it holds, and how many marks stood when it was last saved.
 #[derive(Clone, Copy, Drop)]
@@ -29,12 +30,20 @@ pub struct Trail<'a> {
     entries: &'a mut [Entry],
     size: usize,
     depth: usize,
-    marks: usize,
     used: usize,
-    starts: [usize; MOST_MARKS],
+    starts: ArrayVec<usize, MOST_MARKS>,
+    ghost row: { size ≤ length cells.now },
+    // the entries hold all that so many marks can save
+    ghost room: { size * depth ≤ length entries.now },
+    ghost deep: { depth ≤ 65 },
+    ghost few: { length starts.items ≤ depth },
+    ghost in_use: { used ≤ length entries.now },
+    ghost begun: { (k : ℕ) → k < length starts.items → slice_index starts.items k ≤ length entries.now },
 }
 
 impl<'a> Trail<'a> {
+    ghost use Rattle.stores.specs.Trails.{TrailSound, trail_rows, trail_depth, Undid};
+
     // Opens a store over the cells and the entries, with a row of zeros of at most the size wanted and no row saved.
     pub fn open(cells: &'a mut [Cell], entries: &'a mut [Entry], wanted: usize) -> Trail<'a>
         ensures sound { TrailSound result }
@@ -46,38 +55,36 @@ impl<'a> Trail<'a> {
     {
         let size = row_size(wanted, cells.len());
         let depth = whole_rows(entries.len(), size).min(MOST_MARKS);
-        fill(cells, size, Cell { value: 0, stamp: 0 });
+        cells[..size].fill(Cell { value: 0, stamp: 0 });
         Trail {
             cells,
             entries,
             size,
             depth,
-            marks: 0,
             used: 0,
-            starts: [0; MOST_MARKS],
+            starts: ArrayVec::new(),
         }
     }
 
-    // Puts back what the entries from `from` to `to` hold, newest first.
-    fn undo(&mut self, from: usize, to: usize)
-        requires { to ≤ length self.old.entries.now }
-        ensures { Undid self.old from to self.new }
+    // Takes the entries from `from` on back off, newest first, and puts back what they hold.
+    fn undo(&mut self, from: usize)
+        requires { from ≤ length self.old.entries.now }
+        ensures { Undid self.old from self.new }
     {
-        let mut left = to;
-        while left > from {
-            left -= 1;
-            let entry = self.entries[left];
-            if entry.cell < self.size.min(self.cells.len()) {
-                self.cells[entry.cell] = Cell {
-                    value: entry.value,
-                    stamp: entry.stamp,
-                };
+        for last in (from..self.used).rev() {
+            let Entry { cell, value, stamp } = self.entries[last];
+            if cell < self.size {
+                self.cells[cell] = Cell { value, stamp };
             }
         }
+        self.used = from;
     }
 }
 
+#[tactic(auto, using(crate::proofs::Undoing::marks_saved))]
 impl Store for Trail<'_> {
+    ghost use Rattle.stores.specs.Trails.{TrailSound, trail_rows, Past};
+
     ghost rows = { trail_rows };
 
     ghost sound = { TrailSound };
@@ -91,11 +98,11 @@ impl Store for Trail<'_> {
     }
 
     fn marks(&self) -> usize {
-        self.marks
+        self.starts.len()
     }
 
     fn read(&self, cell: usize) -> Result<u64, StoreFault> {
-        if cell >= self.size.min(self.cells.len()) {
+        if cell >= self.size {
             return Err(StoreFault::NoCell(cell));
         }
         Ok(self.cells[cell].value)
@@ -107,11 +114,12 @@ impl Store for Trail<'_> {
         ensures past { Past self.old self.new }
         ensures lent { self.new.cells.ghost_name ≡ self.old.cells.ghost_name }
     {
-        if cell >= self.size.min(self.cells.len()) {
+        if cell >= self.size {
             return Err(StoreFault::NoCell(cell));
         }
+        let marks = self.starts.len();
         let old = self.cells[cell];
-        if old.stamp != self.marks && self.used < self.entries.len() {
+        if old.stamp != marks && self.used < self.entries.len() {
             self.entries[self.used] = Entry {
                 cell,
                 value: old.value,
@@ -121,7 +129,7 @@ impl Store for Trail<'_> {
         }
         self.cells[cell] = Cell {
             value,
-            stamp: self.marks,
+            stamp: marks,
         };
         Ok(())
     }
@@ -132,12 +140,11 @@ impl Store for Trail<'_> {
         ensures past { Past self.old self.new }
         ensures lent { self.new.cells.ghost_name ≡ self.old.cells.ghost_name }
     {
-        let marks = self.marks;
-        if marks >= self.depth.min(MOST_MARKS) {
+        let marks = self.starts.len();
+        if marks >= self.depth {
             return Err(StoreFault::Deep(marks));
         }
-        self.starts[marks] = self.used;
-        self.marks = marks + 1;
+        self.starts.push(self.used);
         Ok(())
     }
 
@@ -147,15 +154,10 @@ impl Store for Trail<'_> {
         ensures past { Past self.old self.new }
         ensures lent { self.new.cells.ghost_name ≡ self.old.cells.ghost_name }
     {
-        let marks = self.marks;
-        if marks == 0 || marks > MOST_MARKS {
+        let Some(from) = self.starts.pop() else {
             return Err(StoreFault::NoMark);
-        }
-        let from = self.starts[marks - 1];
-        let to = self.used.min(self.entries.len());
-        self.undo(from, to);
-        self.used = from;
-        self.marks = marks - 1;
+        };
+        self.undo(from);
         Ok(())
     }
 }

@@ -1,13 +1,8 @@
 use crate::script::Call;
 use std::alloc::{AllocError, Global};
-use stores::store::{Store, StoreFault};
-
-// The published number and place of a refusal.
-#[derive(Clone, Copy, PartialEq, Eq, Debug, Drop)]
-pub struct Refusal {
-    pub number: u8,
-    pub place: usize,
-}
+use stores::store::Store;
+use stores::tally::Counts;
+use trial::{Refusal, told};
 
 // A plain stack of rows, the judge of every store. It counts what it accepts.
 #[derive(Drop)]
@@ -15,9 +10,7 @@ pub struct Judge {
     pub row: Vec<u64>,
     pub saved: Vec<Vec<u64>>,
     pub depth: usize,
-    pub writes: u32,
-    pub marks: u32,
-    pub restores: u32,
+    pub accepted: Counts,
 }
 
 impl Judge {
@@ -26,21 +19,23 @@ impl Judge {
             row: vec![in heap; 0u64; size]?,
             saved: Vec::new(heap),
             depth,
-            writes: 0,
-            marks: 0,
-            restores: 0,
+            accepted: Counts {
+                writes: 0,
+                marks: 0,
+                restores: 0,
+            },
         })
     }
 
     fn write(&mut self, cell: usize, value: u64) -> Option<Refusal> {
-        if cell >= self.row.len() {
+        let Some(place) = self.row.get_mut(cell) else {
             return Some(Refusal {
                 number: 11,
                 place: cell,
             });
-        }
-        self.row[cell] = value;
-        self.writes = self.writes.wrapping_add(1);
+        };
+        *place = value;
+        self.accepted.writes = self.accepted.writes.wrapping_add(1);
         None
     }
 
@@ -51,22 +46,20 @@ impl Judge {
         }
         let copy = self.row.clone()?;
         self.saved.push(copy)?;
-        self.marks = self.marks.wrapping_add(1);
+        self.accepted.marks = self.accepted.marks.wrapping_add(1);
         Ok(None)
     }
 
     fn restore(&mut self) -> Option<Refusal> {
-        match self.saved.pop() {
-            Some(row) => {
-                self.row = row;
-                self.restores = self.restores.wrapping_add(1);
-                None
-            }
-            None => Some(Refusal {
+        let Some(row) = self.saved.pop() else {
+            return Some(Refusal {
                 number: 13,
                 place: 0,
-            }),
-        }
+            });
+        };
+        self.row = row;
+        self.accepted.restores = self.accepted.restores.wrapping_add(1);
+        None
     }
 
     fn perform(&mut self, call: Call) -> Result<Option<Refusal>, AllocError> {
@@ -75,16 +68,6 @@ impl Judge {
             Call::Mark => self.mark(),
             Call::Restore => Ok(self.restore()),
         }
-    }
-}
-
-fn told<T: Drop>(answer: Result<T, StoreFault>) -> Option<Refusal> {
-    match answer {
-        Ok(_) => None,
-        Err(fault) => Some(Refusal {
-            number: fault.number(),
-            place: fault.place(),
-        }),
     }
 }
 
@@ -97,40 +80,31 @@ fn perform<S: Store>(store: &mut S, call: Call) -> Option<Refusal> {
 }
 
 fn refuses_cell<S: Store>(store: &S, cell: usize) -> bool {
-    match told(store.read(cell)) {
-        Some(refusal) => refusal.number == 11 && refusal.place == cell,
-        None => false,
-    }
+    told(store.read(cell))
+        == Some(Refusal {
+            number: 11,
+            place: cell,
+        })
 }
 
 // The refusal at which so many marks in a row end, if one of them is refused.
 pub fn marks_end<S: Store>(store: &mut S, times: usize) -> Option<Refusal> {
-    for _ in 0..times {
-        let answer = perform(store, Call::Mark);
-        if answer.is_some() {
-            return answer;
-        }
-    }
-    None
+    (0..times).find_map(|_| perform(store, Call::Mark))
 }
 
 // Whether every question about the store is answered as the judge would.
 pub fn same<S: Store>(store: &S, judge: &Judge) -> bool {
     let size = judge.row.len();
-    if store.size() != size || store.depth() != judge.depth || store.marks() != judge.saved.len() {
-        return false;
-    }
-    for i in 0..size {
-        match store.read(i) {
-            Ok(v) => {
-                if v != judge.row[i] {
-                    return false;
-                }
-            }
-            Err(_) => return false,
-        }
-    }
-    refuses_cell(store, size) && refuses_cell(store, usize::MAX)
+    store.size() == size
+        && store.depth() == judge.depth
+        && store.marks() == judge.saved.len()
+        && judge
+            .row
+            .iter()
+            .enumerate()
+            .all(|(cell, value)| store.read(cell) == Ok(*value))
+        && refuses_cell(store, size)
+        && refuses_cell(store, usize::MAX)
 }
 
 // Runs the script on the store and on the judge, and compares every answer and, after each call, every cell.

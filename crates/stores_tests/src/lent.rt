@@ -11,48 +11,33 @@ use stores::trail::{Cell, Entry, Trail};
 // What all memory holds before a store is opened over it.
 const OLD: u64 = 9;
 
-fn same_counts(counts: Counts, judge: &Judge) -> bool {
-    counts.writes == judge.writes
-        && counts.marks == judge.marks
-        && counts.restores == judge.restores
-}
+const OLD_CELL: Cell = Cell {
+    value: OLD,
+    stamp: 9,
+};
+
+const OLD_ENTRY: Entry = Entry {
+    cell: 3,
+    value: OLD,
+    stamp: 9,
+};
 
 // Whether the row is at the front of the cells, and the cells past it are as they were.
 fn cells_hold(cells: &[Cell], row: &[u64]) -> bool {
-    for (i, cell) in cells.iter().enumerate() {
-        match row.get(i) {
-            Some(value) => {
-                if cell.value != *value {
-                    return false;
-                }
-            }
-            None => {
-                if cell.value != OLD || cell.stamp != 9 {
-                    return false;
-                }
-            }
-        }
-    }
     row.len() <= cells.len()
+        && cells
+            .iter()
+            .zip(row)
+            .all(|(cell, value)| cell.value == *value)
+        && cells
+            .iter()
+            .skip(row.len())
+            .all(|cell| cell.value == OLD && cell.stamp == 9)
 }
 
 // Whether the row is at the front of the words, and the words from `reach` on are as they were.
 fn words_hold(words: &[u64], row: &[u64], reach: usize) -> bool {
-    for (i, word) in words.iter().enumerate() {
-        match row.get(i) {
-            Some(value) => {
-                if *word != *value {
-                    return false;
-                }
-            }
-            None => {
-                if i >= reach && *word != OLD {
-                    return false;
-                }
-            }
-        }
-    }
-    row.len() <= words.len()
+    words.starts_with(row) && words.iter().skip(reach).all(|word| *word == OLD)
 }
 
 // The layers that a script is run through.
@@ -63,33 +48,23 @@ pub enum Layers {
     CeilingOverTally(usize),
 }
 
-fn tally_over_ceiling<S: Store + Drop>(
-    below: S,
+// Runs the script through layers of which one cuts the depth to `most`. Then `off` takes them off and says what they counted.
+fn agree_cut<S: Store + Drop, L: Store, F: FnOnce(L) -> (Counts, S)>(
+    layers: L,
+    off: F,
     most: usize,
     judge: &mut Judge,
     script: &[Call],
-) -> Result<bool, AllocError> {
+) -> Result<bool, AllocError>
+    requires { F.IsAlwaysCallable off }
+{
     let depth = judge.depth;
     judge.depth = depth.min(most);
-    let mut store = Tally::over(Ceiling::over(below, most));
-    let agreed = agree(&mut store, judge, script)? && same_counts(store.accepted(), judge);
+    let mut layers = layers;
+    let agreed = agree(&mut layers, judge, script);
     judge.depth = depth;
-    Ok(agreed && same(&store.into_below().into_below(), judge))
-}
-
-fn ceiling_over_tally<S: Store + Drop>(
-    below: S,
-    most: usize,
-    judge: &mut Judge,
-    script: &[Call],
-) -> Result<bool, AllocError> {
-    let depth = judge.depth;
-    judge.depth = depth.min(most);
-    let mut store = Ceiling::over(Tally::over(below), most);
-    let agreed = agree(&mut store, judge, script)?;
-    judge.depth = depth;
-    let tally = store.into_below();
-    Ok(agreed && same_counts(tally.accepted(), judge) && same(&tally.into_below(), judge))
+    let (accepted, below) = off(layers);
+    Ok(agreed? && accepted == judge.accepted && same(&below, judge))
 }
 
 fn agree_through<S: Store + Drop>(
@@ -106,67 +81,65 @@ fn agree_through<S: Store + Drop>(
             let mut store = store;
             agree(&mut store, judge, script)
         }
-        Layers::TallyOverCeiling(most) => tally_over_ceiling(store, most, judge, script),
-        Layers::CeilingOverTally(most) => ceiling_over_tally(store, most, judge, script),
+        Layers::TallyOverCeiling(most) => agree_cut(
+            Tally::over(Ceiling::over(store, most)),
+            |layers: Tally<Ceiling<S>>| (layers.accepted(), layers.into_below().into_below()),
+            most,
+            judge,
+            script,
+        ),
+        Layers::CeilingOverTally(most) => agree_cut(
+            Ceiling::over(Tally::over(store), most),
+            |layers: Ceiling<Tally<S>>| {
+                let tally = layers.into_below();
+                (tally.accepted(), tally.into_below())
+            },
+            most,
+            judge,
+            script,
+        ),
     }
 }
 
-// The memory lent to a trail store, and the size and depth that it should be opened with.
+// How much memory is lent to a store, and to which.
 #[derive(Clone, Copy, Drop)]
-pub struct OnTrail {
-    pub cells: usize,
-    pub entries: usize,
+pub enum Memory {
+    Trail { cells: usize, entries: usize },
+    Copies { words: usize },
+}
+
+// The memory lent to a store, and the size and depth that it should be opened with.
+#[derive(Clone, Copy, Drop)]
+pub struct Case {
+    pub memory: Memory,
     pub wanted: usize,
     pub size: usize,
     pub depth: usize,
 }
 
-impl OnTrail {
+impl Case {
     pub fn agrees(
         &self,
         heap: Global,
         layers: Layers,
         script: &[Call],
     ) -> Result<bool, AllocError> {
-        let cell = Cell {
-            value: OLD,
-            stamp: 9,
-        };
-        let entry = Entry {
-            cell: 3,
-            value: OLD,
-            stamp: 9,
-        };
-        let mut cells = vec![in heap; cell; self.cells]?;
-        let mut entries = vec![in heap; entry; self.entries]?;
         let mut judge = Judge::new(heap, self.size, self.depth)?;
-        let store = Trail::open(cells.as_mut_slice(), entries.as_mut_slice(), self.wanted);
-        let agreed = agree_through(layers, store, &mut judge, script)?;
-        Ok(agreed && cells_hold(&cells, &judge.row))
-    }
-}
-
-// The memory lent to a store of copies, and the size and depth that it should be opened with.
-#[derive(Clone, Copy, Drop)]
-pub struct OnCopies {
-    pub words: usize,
-    pub wanted: usize,
-    pub size: usize,
-    pub depth: usize,
-}
-
-impl OnCopies {
-    pub fn agrees(
-        &self,
-        heap: Global,
-        layers: Layers,
-        script: &[Call],
-    ) -> Result<bool, AllocError> {
-        let mut words = vec![in heap; OLD; self.words]?;
-        let mut judge = Judge::new(heap, self.size, self.depth)?;
-        let store = Copying::open(words.as_mut_slice(), self.wanted);
-        let agreed = agree_through(layers, store, &mut judge, script)?;
-        let reach = self.size.saturating_mul(self.depth.saturating_add(1));
-        Ok(agreed && words_hold(&words, &judge.row, reach))
+        match self.memory {
+            Memory::Trail { cells, entries } => {
+                let mut cells = vec![in heap; OLD_CELL; cells]?;
+                let mut entries = vec![in heap; OLD_ENTRY; entries]?;
+                let store = Trail::open(cells.as_mut_slice(), entries.as_mut_slice(), self.wanted);
+                let agreed = agree_through(layers, store, &mut judge, script)?;
+                Ok(agreed && cells_hold(&cells, &judge.row))
+            }
+            Memory::Copies { words } => {
+                let mut words = vec![in heap; OLD; words]?;
+                let store = Copying::open(words.as_mut_slice(), self.wanted);
+                let agreed = agree_through(layers, store, &mut judge, script)?;
+                let reach = self.size.saturating_mul(self.depth.saturating_add(1));
+                Ok(agreed && words_hold(&words, &judge.row, reach))
+            }
+        }
     }
 }

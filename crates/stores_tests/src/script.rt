@@ -1,4 +1,5 @@
 use std::alloc::{AllocError, Global};
+use trial::mixed;
 
 // A call that may alter a store.
 #[derive(Clone, Copy, Drop)]
@@ -6,12 +7,6 @@ pub enum Call {
     Write(usize, u64),
     Mark,
     Restore,
-}
-
-fn mixed(seed: u64) -> u64 {
-    let a = seed ^ (seed << 13);
-    let b = a ^ (a >> 7);
-    b ^ (b << 17)
 }
 
 // Any call on a row of so many cells; some name the first cell past it, and some a cell far away.

@@ -1,5 +1,5 @@
-use crate::judge::{Refusal, marks_end};
-use crate::lent::{Layers, OnCopies, OnTrail};
+use crate::judge::marks_end;
+use crate::lent::{Case, Layers, Memory};
 use crate::script::{any_calls, ladder};
 use std::alloc::{AllocError, Global};
 use std::test::Fail;
@@ -8,6 +8,7 @@ use stores::copying::Copying;
 use stores::store::Store;
 use stores::tally::Tally;
 use stores::trail::{Cell, Entry, Trail};
+use trial::Refusal;
 
 const LAYERS: [Layers; 6] = [
     Layers::Bare,
@@ -18,28 +19,28 @@ const LAYERS: [Layers; 6] = [
     Layers::CeilingOverTally(9),
 ];
 
-fn on_trail(cells: usize, entries: usize, wanted: usize, size: usize, depth: usize) -> OnTrail {
-    OnTrail {
-        cells,
-        entries,
+fn on_trail(cells: usize, entries: usize, wanted: usize, size: usize, depth: usize) -> Case {
+    Case {
+        memory: Memory::Trail { cells, entries },
         wanted,
         size,
         depth,
     }
 }
 
-fn on_copies(words: usize, wanted: usize, size: usize, depth: usize) -> OnCopies {
-    OnCopies {
-        words,
+fn on_copies(words: usize, wanted: usize, size: usize, depth: usize) -> Case {
+    Case {
+        memory: Memory::Copies { words },
         wanted,
         size,
         depth,
     }
 }
 
-fn trail_agrees(heap: Global, case: OnTrail) -> Result<bool, AllocError> {
+// Whether a long script by chance, and one up to the depth and down, agree through all layers.
+fn agrees(heap: Global, case: Case, seed: u64) -> Result<bool, AllocError> {
     for (i, layers) in LAYERS.iter().enumerate() {
-        let calls = any_calls(heap, 88172645463325252 ^ (i as u64), case.size, 1200)?;
+        let calls = any_calls(heap, seed ^ (i as u64), case.size, 1200)?;
         let steps = ladder(heap, case.size, case.depth)?;
         if !case.agrees(heap, *layers, &calls)? || !case.agrees(heap, *layers, &steps)? {
             return Ok(false);
@@ -48,23 +49,12 @@ fn trail_agrees(heap: Global, case: OnTrail) -> Result<bool, AllocError> {
     Ok(true)
 }
 
-fn copies_agree(heap: Global, case: OnCopies) -> Result<bool, AllocError> {
-    for (i, layers) in LAYERS.iter().enumerate() {
-        let calls = any_calls(heap, 9026712358471235 ^ (i as u64), case.size, 1200)?;
-        let steps = ladder(heap, case.size, case.depth)?;
-        if !case.agrees(heap, *layers, &calls)? || !case.agrees(heap, *layers, &steps)? {
-            return Ok(false);
-        }
-    }
-    Ok(true)
-}
-
-// Whether it is a mark that was refused with so many standing.
-fn is_deep(answer: Option<Refusal>, marks: usize) -> bool {
-    match answer {
-        Some(refusal) => refusal.number == 12 && refusal.place == marks,
-        None => false,
-    }
+// A mark that is refused with so many standing.
+fn deep(marks: usize) -> Option<Refusal> {
+    Some(Refusal {
+        number: 12,
+        place: marks,
+    })
 }
 
 #[test]
@@ -83,7 +73,7 @@ fn trails(rt: HostRuntime) -> Result<(), Fail> {
         on_trail(300, 1000, 1000, 256, 3),
     ];
     for case in cases {
-        assert!(rt; trail_agrees(rt.alloc(), case)?);
+        assert!(rt; agrees(rt.alloc(), case, 88172645463325252)?);
     }
     Ok(())
 }
@@ -105,7 +95,7 @@ fn copies(rt: HostRuntime) -> Result<(), Fail> {
         on_copies(3000, 999, 256, 10),
     ];
     for case in cases {
-        assert!(rt; copies_agree(rt.alloc(), case)?);
+        assert!(rt; agrees(rt.alloc(), case, 9026712358471235)?);
     }
     Ok(())
 }
@@ -120,7 +110,7 @@ fn third_mark_of_a_trail_over_five_entries(rt: HostRuntime) {
     }; 5];
     let mut store = Trail::open(&mut cells, &mut entries, 2);
     assert_eq!(rt; store.depth(), 2);
-    assert!(rt; is_deep(marks_end(&mut store, 3), 2));
+    assert_eq!(rt; marks_end(&mut store, 3), deep(2));
 }
 
 #[test]
@@ -129,7 +119,7 @@ fn ceiling_below_the_marks_that_stand(rt: HostRuntime) {
     let mut below = Tally::over(Copying::open(&mut words, 2));
     assert!(rt; marks_end(&mut below, 2).is_none());
     let mut store = Ceiling::over(below, 1);
-    assert!(rt; is_deep(marks_end(&mut store, 1), 2));
+    assert_eq!(rt; marks_end(&mut store, 1), deep(2));
     assert_eq!(rt; store.into_below().accepted().marks, 2);
 }
 
@@ -142,6 +132,6 @@ fn layers_over_a_trail(rt: HostRuntime) {
         stamp: 0,
     }; 9];
     let mut store = Tally::over(Ceiling::over(Trail::open(&mut cells, &mut entries, 3), 2));
-    assert!(rt; is_deep(marks_end(&mut store, 3), 2));
+    assert_eq!(rt; marks_end(&mut store, 3), deep(2));
     assert_eq!(rt; store.accepted().marks, 2);
 }

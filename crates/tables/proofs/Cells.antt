@@ -1,21 +1,15 @@
 -- What reading and writing a cell does to the domains. Assumes nothing.
-use Rattle.std.proofs.Common.{◌≡◌, ℕ, zero, suc, ◌^◌, ◌<◌, ◌≤◌, Bool, true, false, cond, not, ◌&&◌, ◌||◌, eqb, ltb, List, length, get_or, set, Ok, Err, sym, refl, ap, ◌∙◌, subst, ap₂, ⊎_elim, arith}
+use Rattle.std.proofs.Common.{◌≡◌, ℕ, zero, suc, ◌^◌, ◌<◌, ◌≤◌, Bool, true, false, cond, not, ◌&&◌, ◌||◌, eqb, ltb, List, length, get_or, set, sym, refl, ap, ◌∙◌, subst, ap₂, ⊎_elim}
 use mathlib.Core.Path.{fun_ext}
-use lib.ListN.{length-map}
 use Rattle.std.proofs.lemmas.List.{get_or-set_same, get_or-set_other, length-set}
 use Rattle.std.proofs.lemmas.Bool.{both_ways, cases_Bool, cases_eq, cases_lt, eq-eqb, ne_eqb, eqb-true, lt-ltb, le-ltb, and_from, and_right, not_from_false}
 use Rattle.bits.specs.Bit.{has, counted}
 use Rattle.bits.proofs.Digits.{has-past}
-use Rattle.stores.specs.Rows as store
-use Rattle.stores.specs.Rows.{Rows, number, place}
-use Rattle.stores.specs.declared.store.StoreFault.{StoreFault}
-use Rattle.stores.specs.declared.store.StoreFault.TheVariants.{NoCell, Deep, NoMark}
+use Rattle.stores.specs.Rows.{Rows}
 use Rattle.tree.specs.Tables.{Table, kept, dropped}
 use Rattle.tree.specs.Domains.{has_some, size}
 use Rattle.tree.proofs.Domains.{has_some_to, implies, no_clash}
 use Rattle.tables.specs.States.{with_domains}
-use Rattle.tables.specs.Calls.{Marks, Restores}
-use Rattle.tables.specs.declared.table.TableFault.TheVariants.{Store}
 use Rattle.tables.specs.Words.{digits, domains_of, meaning, Room}
 
 -- ---- one cell
@@ -28,10 +22,10 @@ cell_is_domain n w cells x c l f e = fun_ext (λ v. ⊎_elim
     (cases_lt v w))
 
 -- the two ways to count the members below k
-pub counted-size : (d : ℕ → Bool) (k : ℕ) → counted d k ≡ size d k
+pub counted_size : (d : ℕ → Bool) (k : ℕ) → counted d k ≡ size d k
 unfolding counted
-counted-size d zero = refl
-counted-size d (suc k) = ap (λ n. cond (d k) (suc n) n) (counted-size d k)
+counted_size d zero = refl
+counted_size d (suc k) = ap (λ n. cond (d k) (suc n) n) (counted_size d k)
 
 pub none_has_some : (d : ℕ → Bool) (w : ℕ) → ((u : ℕ) → d u ≡ false) → false ≡ has_some d w
 none_has_some d w f = ⊎_elim
@@ -101,32 +95,3 @@ meaning_written n r t x c T e q = ap (meaning n) e ∙ ap (with_domains (meaning
 pub room_written : (n : ℕ) (r t : Rows) (x c : ℕ) → t ≡ record { row = set r.row x c; saved = r.saved; depth = r.depth } → Room n r → Room n t
 room_written n r t x c e room =
     record { few = room.few; cells = subst (λ k. n ≤ k) (sym (ap (λ (z : Rows). length z.row) e ∙ length-set r.row x c)) room.cells }
-
--- ---- marks
-
--- a store's faults are known by number and place
-
-deep_is : (e : StoreFault) (m : ℕ) → number e ≡ 12 → place e ≡ m → e ≡ Deep m
-deep_is (NoCell i) m h p = absurd (omega (arith, h))
-deep_is (Deep k) m h p = ap Deep p
-deep_is NoMark m h p = absurd (omega (arith, h))
-
-no_mark_is : (e : StoreFault) → number e ≡ 13 → e ≡ NoMark
-no_mark_is (NoCell i) h = absurd (omega (arith, h))
-no_mark_is (Deep k) h = absurd (omega (arith, h))
-no_mark_is NoMark h = refl
-
--- as many tables are saved as rows
-pub saved-length : (n : ℕ) (r : Rows) → length (meaning n r).saved ≡ length r.saved
-saved-length n r = length-map r.saved (domains_of n digits)
-
-pub mark_accepted : (n : ℕ) (r t : Rows) → store.Marks r t (Ok tt) → Marks (meaning n r) (meaning n t) (Ok tt)
-mark_accepted n r t m = (subst (λ k. k < r.depth) (sym (saved-length n r)) m.0, ap (meaning n) m.1)
-
-pub mark_refused : (n : ℕ) (r t : Rows) (e : StoreFault) → store.Marks r t (Err e) → Marks (meaning n r) (meaning n t) (Err (Store e))
-mark_refused n r t e m =
-    let l = sym (saved-length n r) in
-    (subst (λ k. r.depth ≤ k) l m.0, m.1, m.2 ∙ l, ap Store (deep_is e (length (meaning n r).saved) m.1 (m.2 ∙ l)))
-
-pub restore_refused : (n : ℕ) (r t : Rows) (e : StoreFault) → store.Restores r t (Err e) → Restores (meaning n r) (meaning n t) (Err (Store e))
-restore_refused n r t e m = (saved-length n r ∙ m.0, m.1, m.2, ap Store (no_mark_is e m.1))

@@ -1,5 +1,5 @@
 -- Restoring the marks of a store one by one, and writing windows into its cells. Assumes nothing.
-use Rattle.std.proofs.Common.{◌≡◌, ℕ, zero, suc, ◌+◌, ◌<◌, ◌≤◌, min, true, false, ◌&&◌, ltb, leb, List, [], ◌∷◌, map, length, get_or, take, set, Some, None, Ok, sym, refl, ap, ◌∙◌, subst, ⊎_elim, arith}
+use Rattle.std.proofs.Common.{◌≡◌, ℕ, zero, suc, ◌+◌, ◌<◌, ◌≤◌, min, true, false, ◌&&◌, ltb, leb, List, [], ◌∷◌, map, length, get_or, take, set, Some, Ok, sym, refl, ap, ◌∙◌, subst, ⊎_elim, arith}
 use mathlib.Core.Path.{fun_ext}
 use Rattle.std.specs.List.{slice_get}
 use Rattle.std.proofs.lemmas.List.{get_or-set_same, get_or-set_other, length-set}
@@ -21,15 +21,6 @@ pub record Rewinding (s : Rows) (k : ℕ) (t : Rows) : Type 0 where
   pub left : length t.saved + k ≡ length s.saved
   pub depth : t.depth ≡ s.depth
 
-none_left : (rows : List (List ℕ)) → length rows ≡ 0 → rows ≡ []
-none_left [] e = refl
-none_left (r ∷ rs) e = absurd (omega arith)
-
-pub rewinding_all : (s t : Rows) (k : ℕ) → Rewinding s k t → length s.saved ≤ k → Rewound s t
-rewinding_all s t k h l =
-    let z : t.saved ≡ [] = none_left t.saved (omega (arith, h.left)) in
-    record { row = sym (ap (lowest t.row) z) ∙ h.row; long = h.long; saved = z; depth = h.depth }
-
 -- ---- cells
 
 pub filled_more : (ws : List Window) (s t u : Rows) (n c : ℕ) → Filled ws n s t → Writes t n c u (Ok tt) → ((v : ℕ) → has c v ≡ windowed ws n v) → Filled ws (n + 1) s u
@@ -49,22 +40,11 @@ filled_more ws s t u n c h w f =
 -- ---- a model's windows
 
 module _ (m : Value) (valid : is_valid m ≡ true) where
-  pub few_windows : length m.windows ≤ 64
-  few_windows =
-      let some = and_parts (leb 1 (length m.windows)) _ valid in
-      leb-true (length m.windows) 64 (and_parts (leb (length m.windows) 64) _ some.1).0
-
   pub windows_fit : do_windows_fit m.windows ≡ true
   windows_fit =
       let some = and_parts (leb 1 (length m.windows)) _ valid in
       let few = and_parts (leb (length m.windows) 64) _ some.1 in
       (and_parts (do_windows_fit m.windows) _ few.1).0
-
--- there is no window only past the last
-pub no_window : (ws : List Window) (x : ℕ) → None ≡ slice_get ws x → length ws ≤ x
-no_window [] x e = omega arith
-no_window (w ∷ ws) zero e = let z : ◌≡◌ {A = ℕ} 0 1 = cc in absurd (omega arith)
-no_window (w ∷ ws) (suc x) e = let l = no_window ws x e in omega arith
 
 -- every value of a window is a value of a cell
 high_fits : (ws : List Window) → do_windows_fit ws ≡ true → (x : ℕ) (w : Window) → Some w ≡ slice_get ws x → w.high ≤ 64

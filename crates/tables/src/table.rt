@@ -5,6 +5,7 @@ ghost use Rattle.tables.specs.Calls.{number, place, Tells, Shows, Sizes, Leasts,
 ghost use Rattle.tables.specs.declared.table.TableFault.TheVariants.{Store as FromStore};
 
 use bits::Set;
+use faults::Fault;
 use stores::store::StoreFault;
 
 // Why a domain table refused a call.
@@ -24,21 +25,19 @@ impl From<StoreFault> for TableFault {
     }
 }
 
-impl TableFault {
-    // The published number of the fault.
-    pub fn number(&self) -> u8
-        ensures { result ≡ number self.now }
-    {
+impl Fault for TableFault {
+    ghost number = { number };
+
+    ghost place = { place };
+
+    fn number(&self) -> u8 {
         match self {
             TableFault::NoSuch(_) => 21,
             TableFault::Store(fault) => fault.number(),
         }
     }
 
-    // The published place of the fault.
-    pub fn place(&self) -> usize
-        ensures { result ≡ place self.now }
-    {
+    fn place(&self) -> usize {
         match self {
             TableFault::NoSuch(variable) => *variable,
             TableFault::Store(fault) => fault.place(),

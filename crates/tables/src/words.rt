@@ -37,11 +37,11 @@ impl<S: Store> WordTable<S> {
         if x >= self.variables {
             return Err(TableFault::NoSuch(x));
         }
-        let word = self.store.read(x)?;
-        Ok(Set::from(word))
+        Ok(Set::from(self.store.read(x)?))
     }
 
     // The domain of x, where v is a value.
+    #[tactic(auto, using(crate::specs::Words::digits_are))]
     fn cell_for(&self, x: usize, v: u8) -> Result<Set, TableFault>
         ensures { S.Store.sound self.now.store → Room self.now.variables (S.Store.rows self.now.store) → CellFor self.now.variables (S.Store.rows self.now.store).row x v result }
     {
@@ -63,6 +63,7 @@ impl<S: Store> DomainTable for WordTable<S> {
         self.variables
     }
 
+    #[tactic(auto, using(crate::specs::Words::digits_are))]
     fn width(&self) -> usize {
         WIDTH
     }
@@ -76,28 +77,23 @@ impl<S: Store> DomainTable for WordTable<S> {
     }
 
     fn has(&self, x: usize, v: u8) -> Result<bool, TableFault> {
-        let cell = self.cell_for(x, v)?;
-        Ok(cell.has(usize::from(v)))
+        Ok(self.cell_for(x, v)?.has(usize::from(v)))
     }
 
     fn domain(&self, x: usize) -> Result<Set, TableFault> {
-        let domain = self.cell(x)?;
-        Ok(domain)
+        self.cell(x)
     }
 
     fn size(&self, x: usize) -> Result<u32, TableFault> {
-        let cell = self.cell(x)?;
-        Ok(cell.size())
+        Ok(self.cell(x)?.size())
     }
 
     fn least(&self, x: usize) -> Result<Option<u8>, TableFault> {
-        let cell = self.cell(x)?;
-        Ok(cell.least())
+        Ok(self.cell(x)?.least())
     }
 
     fn greatest(&self, x: usize) -> Result<Option<u8>, TableFault> {
-        let cell = self.cell(x)?;
-        Ok(cell.greatest())
+        Ok(self.cell(x)?.greatest())
     }
 
     fn drop(&mut self, x: usize, v: u8) -> Result<bool, TableFault> {
@@ -121,12 +117,10 @@ impl<S: Store> DomainTable for WordTable<S> {
     }
 
     fn mark(&mut self) -> Result<(), TableFault> {
-        self.store.mark()?;
-        Ok(())
+        Ok(self.store.mark()?)
     }
 
     fn restore(&mut self) -> Result<(), TableFault> {
-        self.store.restore()?;
-        Ok(())
+        Ok(self.store.restore()?)
     }
 }

@@ -1,22 +1,19 @@
 use crate::script::Call;
+use faults::Fault;
 use model::values::Window;
 use std::alloc::{AllocError, Global};
 use tables::table::{DomainTable, TableFault};
+use trial::{Refusal, told};
 
 // A value that is in the domain of a variable.
-#[derive(Clone, Copy, Drop)]
+#[derive(Clone, Copy, PartialEq, Eq, Drop)]
 pub struct Pair {
     variable: usize,
     value: u8,
 }
 
-// What a call answers: whether a domain got smaller, nothing, or a refusal with its published number and place.
-#[derive(Clone, Copy, PartialEq, Eq, Debug, Drop)]
-pub enum Answer {
-    Smaller(bool),
-    Done,
-    Refused { number: u8, place: usize },
-}
+// What a call answers: whether a domain got smaller, where that is asked, or a refusal.
+type Answer = Result<Option<bool>, Refusal>;
 
 // How many values a domain has, and which are its ends.
 #[derive(Clone, Copy, PartialEq, Eq, Debug, Drop)]
@@ -29,7 +26,6 @@ pub struct Extent {
 // A plain list of pairs with a stack of saved lists, the judge of every table.
 #[derive(Drop)]
 pub struct Judge {
-    heap: Global,
     variables: usize,
     pairs: Vec<Pair>,
     saved: Vec<Vec<Pair>>,
@@ -52,7 +48,6 @@ impl Judge {
             }
         }
         Ok(Judge {
-            heap,
             variables,
             pairs,
             saved: Vec::new(heap),
@@ -65,114 +60,86 @@ impl Judge {
     }
 
     pub fn has(&self, x: usize, v: u8) -> bool {
-        for pair in self.pairs.iter() {
-            if pair.variable == x && pair.value == v {
-                return true;
-            }
-        }
-        false
+        self.pairs.contains(&Pair {
+            variable: x,
+            value: v,
+        })
     }
 
     fn extent(&self, x: usize) -> Extent {
-        let mut size: u32 = 0;
-        let mut least: Option<u8> = None;
-        let mut greatest: Option<u8> = None;
+        let mut extent = Extent {
+            size: 0,
+            least: None,
+            greatest: None,
+        };
         for v in 0..64u8 {
             if self.has(x, v) {
-                size = size.saturating_add(1);
-                greatest = Some(v);
-                if least.is_none() {
-                    least = Some(v);
-                }
+                extent.size = extent.size.saturating_add(1);
+                extent.least = extent.least.or(Some(v));
+                extent.greatest = Some(v);
             }
         }
-        Extent {
-            size,
-            least,
-            greatest,
-        }
+        extent
     }
 
-    // The pairs that are left: all but those of x where the value is v, or where it is another than v.
-    fn cut(&mut self, x: usize, v: u8, same: bool) -> Result<Answer, AllocError> {
+    // Of the pairs of x those go whose value says so.
+    fn cut<F: Fn(u8) -> bool>(&mut self, x: usize, v: u8, goes: F) -> Answer
+        requires { F.IsAlwaysCallable goes }
+    {
         if x >= self.variables || v > 63 {
-            return Ok(Answer::Refused {
+            return Err(Refusal {
                 number: 21,
                 place: x,
             });
         }
-        let mut left = Vec::new(self.heap);
-        for pair in self.pairs.iter() {
-            if pair.variable != x || (pair.value == v) != same {
-                left.push(*pair)?;
-            }
-        }
-        let smaller = left.len() < self.pairs.len();
-        self.pairs = left;
-        Ok(Answer::Smaller(smaller))
+        let before = self.pairs.len();
+        self.pairs
+            .retain(|pair| pair.variable != x || !goes(pair.value));
+        Ok(Some(self.pairs.len() < before))
     }
 
     fn mark(&mut self) -> Result<Answer, AllocError> {
         let place = self.saved.len();
         if place >= self.depth {
-            return Ok(Answer::Refused { number: 12, place });
+            return Ok(Err(Refusal { number: 12, place }));
         }
         let copy = self.pairs.clone()?;
         self.saved.push(copy)?;
-        Ok(Answer::Done)
+        Ok(Ok(None))
     }
 
     fn restore(&mut self) -> Answer {
-        match self.saved.pop() {
-            Some(pairs) => {
-                self.pairs = pairs;
-                Answer::Done
-            }
-            None => Answer::Refused {
+        let Some(pairs) = self.saved.pop() else {
+            return Err(Refusal {
                 number: 13,
                 place: 0,
-            },
-        }
+            });
+        };
+        self.pairs = pairs;
+        Ok(None)
     }
 
     fn perform(&mut self, call: Call) -> Result<Answer, AllocError> {
         match call {
-            Call::Drop(x, v) => self.cut(x, v, true),
-            Call::Keep(x, v) => self.cut(x, v, false),
+            Call::Drop(x, v) => Ok(self.cut(x, v, |value| value == v)),
+            Call::Keep(x, v) => Ok(self.cut(x, v, |value| value != v)),
             Call::Mark => self.mark(),
             Call::Restore => Ok(self.restore()),
         }
     }
 }
 
-fn refusal(fault: TableFault) -> Answer {
-    Answer::Refused {
+fn perform<T: DomainTable>(table: &mut T, call: Call) -> Answer {
+    let answer = match call {
+        Call::Drop(x, v) => table.drop(x, v).map(Some),
+        Call::Keep(x, v) => table.keep(x, v).map(Some),
+        Call::Mark => table.mark().map(|()| None),
+        Call::Restore => table.restore().map(|()| None),
+    };
+    answer.map_err(|fault| Refusal {
         number: fault.number(),
         place: fault.place(),
-    }
-}
-
-fn cut_answer(answer: Result<bool, TableFault>) -> Answer {
-    match answer {
-        Ok(smaller) => Answer::Smaller(smaller),
-        Err(fault) => refusal(fault),
-    }
-}
-
-fn stack_answer(answer: Result<(), TableFault>) -> Answer {
-    match answer {
-        Ok(()) => Answer::Done,
-        Err(fault) => refusal(fault),
-    }
-}
-
-fn perform<T: DomainTable>(table: &mut T, call: Call) -> Answer {
-    match call {
-        Call::Drop(x, v) => cut_answer(table.drop(x, v)),
-        Call::Keep(x, v) => cut_answer(table.keep(x, v)),
-        Call::Mark => stack_answer(table.mark()),
-        Call::Restore => stack_answer(table.restore()),
-    }
+    })
 }
 
 fn extent_of<T: DomainTable>(table: &T, x: usize) -> Result<Extent, TableFault> {
@@ -184,10 +151,11 @@ fn extent_of<T: DomainTable>(table: &T, x: usize) -> Result<Extent, TableFault> 
 }
 
 fn is_no_such<X: Drop>(answer: Result<X, TableFault>, x: usize) -> bool {
-    match answer {
-        Ok(_) => false,
-        Err(fault) => fault.number() == 21 && fault.place() == x,
-    }
+    told(answer)
+        == Some(Refusal {
+            number: 21,
+            place: x,
+        })
 }
 
 // Whether all questions about a variable that is not there are refused.
@@ -203,42 +171,23 @@ fn same_domain<T: DomainTable>(table: &T, judge: &Judge, x: usize) -> bool {
     let Ok(domain) = table.domain(x) else {
         return false;
     };
-    for v in 0..64u8 {
-        match table.has(x, v) {
-            Ok(found) => {
-                let there = judge.has(x, v);
-                if found != there || domain.has(usize::from(v)) != there {
-                    return false;
-                }
-            }
-            Err(_) => return false,
-        }
-    }
-    match extent_of(table, x) {
-        Ok(found) => {
-            found == judge.extent(x)
-                && is_no_such(table.has(x, 64), x)
-                && is_no_such(table.has(x, 255), x)
-        }
-        Err(_) => false,
-    }
+    (0..64u8).all(|v| {
+        let there = judge.has(x, v);
+        table.has(x, v) == Ok(there) && domain.has(usize::from(v)) == there
+    }) && extent_of(table, x) == Ok(judge.extent(x))
+        && is_no_such(table.has(x, 64), x)
+        && is_no_such(table.has(x, 255), x)
 }
 
 // Whether every question about the table is answered as the judge would.
 pub fn same<T: DomainTable>(table: &T, judge: &Judge) -> bool {
-    if table.variables() != judge.variables
-        || table.width() != 64
-        || table.depth() != judge.depth
-        || table.marks() != judge.saved.len()
-    {
-        return false;
-    }
-    for x in 0..judge.variables {
-        if !same_domain(table, judge, x) {
-            return false;
-        }
-    }
-    refuses_variable(table, judge.variables) && refuses_variable(table, usize::MAX)
+    table.variables() == judge.variables
+        && table.width() == 64
+        && table.depth() == judge.depth
+        && table.marks() == judge.saved.len()
+        && (0..judge.variables).all(|x| same_domain(table, judge, x))
+        && refuses_variable(table, judge.variables)
+        && refuses_variable(table, usize::MAX)
 }
 
 // Runs the script on the table and on the judge, and compares every answer; now and then, and at the end, every question too.
@@ -249,10 +198,7 @@ pub fn agree<T: DomainTable>(
 ) -> Result<bool, AllocError> {
     for (i, call) in script.iter().enumerate() {
         let answer = perform(table, *call);
-        if answer != judge.perform(*call)? {
-            return Ok(false);
-        }
-        if i % 16 == 0 && !same(table, judge) {
+        if answer != judge.perform(*call)? || (i % 16 == 0 && !same(table, judge)) {
             return Ok(false);
         }
     }

@@ -15,6 +15,15 @@ use tables::words::WordTable;
 // What is written to every cell before a table is opened.
 const DIRT: u64 = 0xa5a5_0000_ffff_1234;
 
+// What the memory lent to a trail holds before it is opened.
+const CELL: Cell = Cell { value: 9, stamp: 9 };
+
+const ENTRY: Entry = Entry {
+    cell: 3,
+    value: 9,
+    stamp: 9,
+};
+
 // Leaves dirty cells and some marks standing.
 fn soil<S: Store>(store: &mut S, marks: usize) {
     for i in 0..store.size() {
@@ -28,41 +37,24 @@ fn soil<S: Store>(store: &mut S, marks: usize) {
 
 // Whether the digits 1 of each cell are the values of its variable, and the other cells are as dirty as before the first mark.
 fn holds<S: Store>(store: &S, judge: &Judge) -> bool {
-    for i in 0..store.size() {
-        let Ok(word) = store.read(i) else {
-            return false;
-        };
-        if i < judge.variables() {
-            for v in 0..64u8 {
-                if ((word >> v) & 1 == 1) != judge.has(i, v) {
-                    return false;
-                }
-            }
-        } else if word != DIRT {
-            return false;
+    (0..store.size()).all(|i| match store.read(i) {
+        Ok(word) if i < judge.variables() => {
+            (0..64u8).all(|v| ((word >> v) & 1 == 1) == judge.has(i, v))
         }
-    }
-    true
+        Ok(word) => word == DIRT,
+        Err(_) => false,
+    })
 }
 
-// Opens a table over the store as it is left by others, and runs the script.
-fn agrees_over<S: Store + Drop>(
-    heap: Global,
-    model: &Model,
-    windows: &[Window],
-    store: S,
-    script: &[Call],
-) -> Result<bool, AllocError> {
-    let mut store = store;
-    let depth = store.depth();
-    soil(&mut store, depth.min(3));
-    let mut judge = Judge::new(heap, windows, store.size(), depth)?;
-    let mut table = WordTable::open(model, store);
-    let agreed = same(&table, &judge) && agree(&mut table, &mut judge, script)?;
-    Ok(agreed && holds(&table.into_store(), &judge))
+// Which store a table is opened over.
+#[derive(Clone, Copy, Debug, Drop)]
+pub enum Over {
+    Trail,
+    Copies,
+    Layers,
 }
 
-// A model's windows, and the sizes of the memory lent to the store.
+// The sizes of the memory lent to the store, and the most marks that its layers let through.
 #[derive(Clone, Copy, Drop)]
 pub struct Case {
     pub cells: usize,
@@ -70,52 +62,45 @@ pub struct Case {
     pub most: usize,
 }
 
-impl Case {
-    pub fn agrees_on_trail(
-        &self,
-        heap: Global,
-        model: &Model,
-        windows: &[Window],
-        script: &[Call],
-    ) -> Result<bool, AllocError> {
-        let cell = Cell { value: 9, stamp: 9 };
-        let entry = Entry {
-            cell: 3,
-            value: 9,
-            stamp: 9,
-        };
-        let mut cells = vec![in heap; cell; self.cells]?;
-        let mut entries = vec![in heap; entry; self.cells.saturating_mul(self.depth)]?;
-        let store = Trail::open(cells.as_mut_slice(), entries.as_mut_slice(), self.cells);
-        agrees_over(heap, model, windows, store, script)
+// A model with its windows, and what is called on the tables that are opened from it.
+#[derive(Clone, Copy, Drop)]
+pub struct Run<'a> {
+    pub heap: Global,
+    pub model: &'a Model,
+    pub windows: &'a [Window],
+    pub script: &'a [Call],
+}
+
+impl Run<'_> {
+    // Opens a table over the store as it is left by others, and runs the script.
+    fn agrees_over<S: Store + Drop>(&self, store: S) -> Result<bool, AllocError> {
+        let mut store = store;
+        let depth = store.depth();
+        soil(&mut store, depth.min(3));
+        let mut judge = Judge::new(self.heap, self.windows, store.size(), depth)?;
+        let mut table = WordTable::open(self.model, store);
+        let agreed = same(&table, &judge) && agree(&mut table, &mut judge, self.script)?;
+        Ok(agreed && holds(&table.into_store(), &judge))
     }
 
-    pub fn agrees_on_copies(
-        &self,
-        heap: Global,
-        model: &Model,
-        windows: &[Window],
-        script: &[Call],
-    ) -> Result<bool, AllocError> {
-        let size = self.cells.saturating_mul(self.depth.saturating_add(1));
-        let mut words = vec![in heap; 9u64; size]?;
-        let store = Copying::open(words.as_mut_slice(), self.cells);
-        agrees_over(heap, model, windows, store, script)
-    }
-
-    pub fn agrees_on_layers(
-        &self,
-        heap: Global,
-        model: &Model,
-        windows: &[Window],
-        script: &[Call],
-    ) -> Result<bool, AllocError> {
-        let size = self.cells.saturating_mul(self.depth.saturating_add(1));
-        let mut words = vec![in heap; 9u64; size]?;
-        let store = Ceiling::over(
-            Tally::over(Copying::open(words.as_mut_slice(), self.cells)),
-            self.most,
-        );
-        agrees_over(heap, model, windows, store, script)
+    pub fn agrees(&self, case: Case, over: Over) -> Result<bool, AllocError> {
+        let saved = case.cells.saturating_mul(case.depth);
+        match over {
+            Over::Trail => {
+                let mut cells = vec![in self.heap; CELL; case.cells]?;
+                let mut entries = vec![in self.heap; ENTRY; saved]?;
+                let store = Trail::open(cells.as_mut_slice(), entries.as_mut_slice(), case.cells);
+                self.agrees_over(store)
+            }
+            Over::Copies => {
+                let mut words = vec![in self.heap; 9u64; saved.saturating_add(case.cells)]?;
+                self.agrees_over(Copying::open(words.as_mut_slice(), case.cells))
+            }
+            Over::Layers => {
+                let mut words = vec![in self.heap; 9u64; saved.saturating_add(case.cells)]?;
+                let below = Copying::open(words.as_mut_slice(), case.cells);
+                self.agrees_over(Ceiling::over(Tally::over(below), case.most))
+            }
+        }
     }
 }

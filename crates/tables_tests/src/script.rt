@@ -1,4 +1,5 @@
 use std::alloc::{AllocError, Global};
+use trial::mixed;
 
 // A call that may alter a table.
 #[derive(Clone, Copy, Drop)]
@@ -7,12 +8,6 @@ pub enum Call {
     Keep(usize, u8),
     Mark,
     Restore,
-}
-
-fn mixed(seed: u64) -> u64 {
-    let a = seed ^ (seed << 13);
-    let b = a ^ (a >> 7);
-    b ^ (b << 17)
 }
 
 // Any call on so many variables; some name the first variable past them or one far away, and some the first value that is none.

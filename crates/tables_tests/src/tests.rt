@@ -1,4 +1,4 @@
-use crate::opened::Case;
+use crate::opened::{Case, Over, Run};
 use crate::script::{any_calls, ladder};
 use model::model::Model;
 use model::values::Window;
@@ -39,18 +39,15 @@ fn agrees(rt: &impl Abort, heap: Global, windows: &[Window], case: Case) -> Resu
     let calls = any_calls(heap, 88172645463325252, variables, 600)?;
     let steps = ladder(heap, variables, case.depth)?;
     for script in [&calls, &steps] {
-        assert!(rt;
-            case.agrees_on_trail(heap, &model, windows, script)?,
-            "trail"
-        );
-        assert!(rt;
-            case.agrees_on_copies(heap, &model, windows, script)?,
-            "copies"
-        );
-        assert!(rt;
-            case.agrees_on_layers(heap, &model, windows, script)?,
-            "layers"
-        );
+        let run = Run {
+            heap,
+            model: &model,
+            windows,
+            script,
+        };
+        for over in [Over::Trail, Over::Copies, Over::Layers] {
+            assert!(rt; run.agrees(case, over)?, "{over:?}");
+        }
     }
     Ok(())
 }

@@ -1,45 +1,22 @@
-use Rattle.std.proofs.Common.{◌≡◌, ℕ, ◌*◌, ◌/◌, ◌<◌, ◌≤◌, ◌++◌, length, take, drop, replicate, refl, ap, ◌∙◌, subst, mul-le-mul_left, arith}
-use native.Mathlib.Nat.{mul-div-le}
+use Rattle.std.proofs.Common.{◌≡◌, ℕ, ◌≤◌, List, [], ◌++◌, length, take, drop, replicate, ap, ◌∙◌, arith}
 use lib.LanesLaws.{map-replicate}
-use Rattle.std.proofs.ByRecursion.{All-from_get_or}
-use Rattle.std.proofs.lemmas.List.{take_at, length-replicate, get_or-replicate}
+use Rattle.std.proofs.lemmas.List.{take_at, length-replicate, length-take-le}
 use Rattle.stores.specs.declared.trail.Cell.{Cell}
-use Rattle.stores.specs.Rows.{size_for}
-use Rattle.stores.specs.Trails.{Within, blank, values, trail_depth}
+use Rattle.stores.specs.Rows.{fresh, size_for}
+use Rattle.stores.specs.Entries.{blank, values, saved_rows, spans}
+use Rattle.stores.specs.Trails.{trail_depth}
 use Rattle.stores.proofs.trail.Trail.open.Goals as goal
 
-unstamped : (n : ℕ) → Within 0 (replicate n blank)
-unstamped n = All-from_get_or (λ (c : Cell). c.stamp ≤ 0) (replicate n blank) blank (λ i h. let l : i < n = omega (arith, length-replicate n blank) in rw (get_or-replicate n i blank blank l) (omega arith))
-
--- the entries that all marks can take fit
-fits : (n e : ℕ) → n * trail_depth e n ≤ e
-fits n e =
-    let a : trail_depth e n ≤ e / n = omega arith in
-    omega (arith, mul-le-mul_left n a, mul-div-le e n)
-
-pub returns : goal.returns
-returns c =
+pub returns-clause-rows : goal.returns-clause-rows
+returns-clause-rows c =
     let n = c.row_size-size.result in
     let old = c.args.cells.now in
-    let es = length c.args.entries.now in
-    let cells = c.fill.new.places in
+    let few : n ≤ length old = omega (arith, c.row_size-size.ensures) in
+    let filled : c.fill.new.self ≡ replicate n blank = c.fill.ensures.after (λ y q. q) ∙ ap (λ (k : ℕ). replicate k blank) (length-take-le n old few) in
+    let front : take n (c.fill.new.self ++ drop n old) ≡ replicate n blank = ap (λ (xs : List Cell). take n (xs ++ drop n old)) filled ∙ take_at (replicate n blank) (drop n old) n (length-replicate n blank) in
+    let row : values (take n (c.fill.new.self ++ drop n old)) ≡ replicate n 0 = ap values front ∙ map-replicate (λ (x : Cell). x.value) n blank in
     let size : n ≡ size_for c.args.wanted (length old) = c.row_size-size.ensures in
-    let front : take n cells ≡ replicate n blank = ap (take n) c.fill.ensures ∙ take_at (replicate n blank) (drop n old) n (length-replicate n blank) in
-    let row : values (take n cells) ≡ replicate n 0 = ap values front ∙ map-replicate (λ (x : Cell). x.value) n blank in
-    let depth : c.min-depth.result ≡ trail_depth es n = omega arith in
-    record {
-      sound = record {
-        cells = omega (arith, c.fill.auto.places);
-        room = rw depth (fits n es);
-        deep = omega arith;
-        counts = refl;
-        marks = omega arith;
-        rising = refl;
-        fine = rw front (unstamped n);
-      };
-      rows = (cc);
-      size = size;
-      past = subst (λ (k : ℕ). cells ≡ replicate k blank ++ drop k old) size c.fill.ensures;
-      entries = refl;
-      lent = refl;
-    }
+    let depth : c.min-depth.result ≡ trail_depth (length c.args.entries.now) n = omega arith in
+    let saved : saved_rows (spans c.args.entries.now c.new.result.items (length c.new.result.items) 0) (take n (c.fill.new.self ++ drop n old)) ≡ [] = ap (λ (xs : List ℕ). saved_rows (spans c.args.entries.now xs (length xs) 0) (take n (c.fill.new.self ++ drop n old))) c.new.ensures in
+    let all : record { row = values (take n (c.fill.new.self ++ drop n old)); saved = saved_rows (spans c.args.entries.now c.new.result.items (length c.new.result.items) 0) (take n (c.fill.new.self ++ drop n old)); depth = c.min-depth.result } ≡ fresh n (trail_depth (length c.args.entries.now) n) = λ j. record { row = row j; saved = saved j; depth = depth j } in
+    all ∙ ap (λ (k : ℕ). fresh k (trail_depth (length c.args.entries.now) k)) size

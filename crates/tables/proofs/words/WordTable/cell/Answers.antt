@@ -7,8 +7,8 @@ use Rattle.tables.proofs.words.WordTable.cell.Goals as goal
 
 pub returns : goal.returns
 returns g c = λ sound room.
-    let read = c.in_ok-word.ensures sound in
-    let word = c.in_ok-word.word in
+    let read = c.in_ok-read.ensures sound in
+    let word = c.in_ok-read.field-0 in
     let cells = (g.S.Store.rows c.args.self.now.store).row in
     let fits : word < 2 ^ 64 = search rules in
     let is : c.from.result.word ≡ word = ap (λ (s : Set). s.word) c.from.ensures in

@@ -1,11 +1,8 @@
-use Rattle.std.proofs.Common.{◌≡◌, ℕ, min, ◌&&◌, ltb, leb, ◌∙◌, ap₂, arith}
+use Rattle.std.proofs.Common.{◌≡◌, ℕ, min, ◌&&◌, ltb, leb, ◌∙◌, ap₂}
 use Rattle.bits.specs.Bit.{has}
 use Rattle.model.specs.Meaning.{means}
-use Rattle.tables.proofs.Windows.{filled_more, spanned, windows_fit, no_window}
+use Rattle.tables.proofs.Windows.{filled_more, spanned, windows_fit}
 use Rattle.tables.proofs.words.opening.fill.Goals as goal
-
-pub returns-in_default : goal.returns-in_default
-returns-in_default g c = λ few cells sound. absurd (omega (arith, no_window (means c.args.model.now).windows c.loop-x.x c.in_default.ensures))
 
 pub loop-x-preserved : goal.loop-x-preserved
 loop-x-preserved g c = λ few cells sound.
