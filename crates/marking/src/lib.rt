@@ -1,18 +1,19 @@
 #![tactic(auto)]
 
-ghost use Rattle.std.specs.Prelude.{◌≡◌, []};
+ghost use Rattle.std.specs.Prelude.{◌≡◌, [], reverse};
 ghost use Rattle.stores.specs.Rows.{Keeps};
 ghost use Rattle.model.specs.Meaning.{means as model-means};
 ghost use Rattle.kinds.specs.Problems.{problem};
 ghost use Rattle.spaces.specs.Tops.{opened, base_table};
-ghost use Rattle.marking.specs.Marks.{marking, Sound, Rewinds, depth_over};
+ghost use Rattle.marking.specs.Marks.{meaning, IsSound, Rewinds, depth_over};
 ghost use Rattle.marking.specs.Laws.{marking_laws};
 
-use filtering::filter::{Start, filter};
-use filtering::list::WaitingList;
+use arrayvec::ArrayVec;
+use filtering::filter::Start;
 use kinds::kind::Kinds;
 use model::model::Model;
-use spaces::ask::{chosen, some_open};
+use spaces::ask::chosen;
+use spaces::base::{Base, Top};
 use spaces::space::{Space, SpaceFault, State};
 use tables::table::{DomainTable, TableFault};
 
@@ -29,211 +30,127 @@ fn rewind<T: DomainTable>(table: &mut T, k: usize) -> Result<(), TableFault>
     table.restore()
 }
 
-// A space that marks its table at the base and at each take. It borrows the model, and holds the table and the kinds.
+// A space that marks its table at the base and at each take.
 #[derive(Drop)]
 pub struct Marking<'m, T: DomainTable, K: Kinds> {
-    table: T,
-    kinds: K,
-    model: &'m Model,
-    list: WaitingList,
-    run: bool,
-    // whether the top is a filtered table
-    alive: bool,
-    // how many takes stand
-    count: usize,
-    // what they took, the oldest first
-    choices: [(usize, u8); 64],
+    base: Base<'m, T, K>,
+    // what the takes that stand took, the oldest first
+    choices: ArrayVec<(usize, u8), 64>,
 }
 
 impl<'m, T: DomainTable, K: Kinds> Marking<'m, T, K> {
     // Opens a space over the table as its base, without a run.
     pub fn open(table: T, kinds: K, model: &'m Model) -> Marking<'m, T, K>
-        ensures means { marking K.Kinds.demands (model-means result.model.now) (T.DomainTable.means result.table) result.run result.alive result.count result.choices ≡ opened (problem K.Kinds.demands (model-means model.now) (T.DomainTable.means table).width) (T.DomainTable.means table) (depth_over (T.DomainTable.means table).depth) }
-        ensures sound { T.DomainTable.sound table → Sound (T.DomainTable.sound result.table) K.Kinds.demands (model-means result.model.now) (T.DomainTable.means result.table) result.run result.alive result.count result.choices }
+        ensures means { meaning K.Kinds.demands T.DomainTable.means result ≡ opened (problem K.Kinds.demands (model-means model.now) (T.DomainTable.means table).width) (T.DomainTable.means table) (depth_over (T.DomainTable.means table).depth) }
+        ensures sound { T.DomainTable.sound table → IsSound T.DomainTable.sound K.Kinds.demands T.DomainTable.means result }
     {
         Marking {
-            table,
-            kinds,
-            model,
-            list: WaitingList::new(),
-            run: false,
-            alive: true,
-            count: 0,
-            choices: [(0, 0); 64],
+            base: Base::open(table, kinds, model),
+            choices: ArrayVec::new(),
         }
     }
 
     // The table and the kinds, as they stand: without a run the table is the base.
     pub fn into_parts(self) -> (T, K)
-        ensures parts { (result.0 ≡ self.entry.table) × (result.1 ≡ self.entry.kinds) }
-        ensures base { (marking K.Kinds.demands (model-means self.entry.model.now) (T.DomainTable.means self.entry.table) self.entry.run self.entry.alive self.entry.count self.entry.choices).pile ≡ [] → T.DomainTable.means result.0 ≡ base_table (marking K.Kinds.demands (model-means self.entry.model.now) (T.DomainTable.means self.entry.table) self.entry.run self.entry.alive self.entry.count self.entry.choices) }
+        ensures parts { (result.0 ≡ self.entry.base.table) × (result.1 ≡ self.entry.base.kinds) }
+        ensures base { (meaning K.Kinds.demands T.DomainTable.means self.entry).pile ≡ [] → T.DomainTable.means result.0 ≡ base_table (meaning K.Kinds.demands T.DomainTable.means self.entry) }
     {
-        let Marking {
-            table,
-            kinds,
-            model: _,
-            list: _,
-            run: _,
-            alive: _,
-            count: _,
-            choices: _,
-        } = self;
-        (table, kinds)
+        let Marking { base, choices: _ } = self;
+        base.into_parts()
     }
 }
 
 impl<'m, T: DomainTable, K: Kinds> Space for Marking<'m, T, K> {
-    ghost means = { λ s. marking K.Kinds.demands (model-means s.model.now) (T.DomainTable.means s.table) s.run s.alive s.count s.choices };
+    ghost means = { meaning K.Kinds.demands T.DomainTable.means };
 
-    ghost sound = { λ s. Sound (T.DomainTable.sound s.table) K.Kinds.demands (model-means s.model.now) (T.DomainTable.means s.table) s.run s.alive s.count s.choices };
+    ghost sound = { IsSound T.DomainTable.sound K.Kinds.demands T.DomainTable.means };
 
-    ghost laws = { λ s sound. marking_laws K.Kinds.demands (model-means s.model.now) (T.DomainTable.sound s.table) (T.DomainTable.means s.table) s.run s.alive s.count s.choices (T.DomainTable.bounded s.table sound.part) sound };
+    ghost laws = { λ s sound. marking_laws K.Kinds.demands (model-means s.base.model.now) (T.DomainTable.sound s.base.table) (T.DomainTable.means s.base.table) s.base.top (reverse s.choices.items) (T.DomainTable.bounded s.base.table sound.part) sound };
 
     fn enter(&mut self) -> Result<(), SpaceFault> {
-        let marks = self.table.marks();
-        if self.run {
-            return Err(SpaceFault::Busy(marks));
+        if self.base.top.is_some() {
+            return Err(SpaceFault::Busy(self.nodes()));
         }
-        if self.table.variables() != self.model.variables() {
-            return Err(SpaceFault::Base(marks));
-        }
-        if marks != 0 {
-            return Err(SpaceFault::Base(marks));
-        }
-        self.table.mark()?;
-        self.alive = filter(
-            &mut self.table,
-            self.model,
-            &self.kinds,
-            &mut self.list,
-            Start::All,
-        )?;
-        self.run = true;
-        Ok(())
+        self.base.begin()
     }
 
     fn take(&mut self, x: usize, v: u8) -> Result<(), SpaceFault> {
-        if !self.run {
-            return Err(SpaceFault::Idle);
+        match self.base.top {
+            None => return Err(SpaceFault::Idle),
+            Some(Top::Failed) => return Err(SpaceFault::Failed(self.nodes())),
+            Some(Top::Live) => {}
         }
-        if !self.alive {
-            return Err(SpaceFault::Failed(self.table.marks()));
-        }
-        if !chosen(&self.table, x, v) {
+        if !chosen(&self.base.table, x, v) {
             return Err(SpaceFault::NoChoice(x));
         }
-        let count = self.count;
-        if count >= MOST {
+        if self.choices.is_full() {
             return Err(SpaceFault::NoChoice(x));
         }
-        self.table.mark()?;
-        self.table.keep(x, v)?;
-        self.alive = filter(
-            &mut self.table,
-            self.model,
-            &self.kinds,
-            &mut self.list,
-            Start::Changed(x),
-        )?;
-        self.choices[count] = (x, v);
-        self.count = count + 1;
+        self.base.table.mark()?;
+        self.base.table.keep(x, v)?;
+        self.base.filtered(Start::Changed(x))?;
+        self.choices.push((x, v));
         Ok(())
     }
 
     fn turn(&mut self) -> Result<(), SpaceFault> {
-        if !self.run {
+        if self.base.top.is_none() {
             return Err(SpaceFault::Idle);
         }
-        if self.count == 0 {
+        let Some((x, v)) = self.choices.pop() else {
             return Err(SpaceFault::NoTake);
-        }
-        let last = self.count - 1;
-        if last >= MOST {
-            return Err(SpaceFault::NoTake);
-        }
-        let (x, v) = self.choices[last];
-        self.table.restore()?;
-        self.table.drop(x, v)?;
-        self.alive = filter(
-            &mut self.table,
-            self.model,
-            &self.kinds,
-            &mut self.list,
-            Start::Changed(x),
-        )?;
-        self.count = last;
-        Ok(())
+        };
+        self.base.table.restore()?;
+        self.base.table.drop(x, v)?;
+        self.base.filtered(Start::Changed(x))
     }
 
     fn leave(&mut self) -> Result<(), SpaceFault> {
-        if !self.run {
+        if self.base.top.is_none() {
             return Err(SpaceFault::Idle);
         }
-        rewind(&mut self.table, self.count)?;
-        self.run = false;
-        self.count = 0;
+        rewind(&mut self.base.table, self.choices.len())?;
+        self.base.top = None;
+        self.choices.clear();
         Ok(())
     }
 
     fn state(&self) -> State {
-        if !self.run {
-            return State::NoRun;
-        }
-        if !self.alive {
-            return State::Failed;
-        }
-        if some_open(&self.table) {
-            State::Open
-        } else {
-            State::Plan
-        }
+        self.base.state()
     }
 
     fn variables(&self) -> usize {
-        self.model.variables()
+        self.base.model.variables()
     }
 
     fn domains(&self) -> usize {
-        self.table.variables()
+        self.base.table.variables()
     }
 
     fn depth(&self) -> usize {
-        self.table.depth().saturating_sub(1).min(MOST)
+        self.base.table.depth().saturating_sub(1).min(MOST)
     }
 
     fn nodes(&self) -> usize {
-        if self.run { self.table.marks() } else { 0 }
+        match self.base.top {
+            Some(_) => self.base.table.marks(),
+            None => 0,
+        }
     }
 
     fn has(&self, x: usize, v: u8) -> Result<bool, SpaceFault> {
-        if self.run && !self.alive {
-            return Err(SpaceFault::Failed(self.table.marks()));
-        }
-        let there = self.table.has(x, v)?;
-        Ok(there)
+        self.base.has(self.nodes(), x, v)
     }
 
     fn size(&self, x: usize) -> Result<u32, SpaceFault> {
-        if self.run && !self.alive {
-            return Err(SpaceFault::Failed(self.table.marks()));
-        }
-        let size = self.table.size(x)?;
-        Ok(size)
+        self.base.size(self.nodes(), x)
     }
 
     fn least(&self, x: usize) -> Result<Option<u8>, SpaceFault> {
-        if self.run && !self.alive {
-            return Err(SpaceFault::Failed(self.table.marks()));
-        }
-        let least = self.table.least(x)?;
-        Ok(least)
+        self.base.least(self.nodes(), x)
     }
 
     fn greatest(&self, x: usize) -> Result<Option<u8>, SpaceFault> {
-        if self.run && !self.alive {
-            return Err(SpaceFault::Failed(self.table.marks()));
-        }
-        let greatest = self.table.greatest(x)?;
-        Ok(greatest)
+        self.base.greatest(self.nodes(), x)
     }
 }

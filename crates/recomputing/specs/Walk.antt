@@ -1,5 +1,5 @@
--- A path of steps, and the nodes along it. Assumes nothing.
-use Rattle.std.specs.Prelude.{◌≡◌, ℕ, zero, suc, ◌<◌, ◌≤◌, Bool, List, [], ◌∷◌, length, Some, None, Ok, Err, Option, Result, slice_index_or}
+-- A path of steps, listed newest first, and the nodes along it. Assumes nothing.
+use Rattle.std.specs.Prelude.{◌≡◌, ℕ, ◌<◌, Bool, List, [], ◌∷◌, Some, None, Ok, Err, Option, Result}
 use Rattle.tree.specs.Tables.{Table, Choice, kept, dropped}
 use Rattle.tree.specs.Filter.{Problem, Node, failed, table}
 use Rattle.tree.specs.Find.{node}
@@ -7,11 +7,6 @@ use Rattle.tables.specs.States.{TableState, with_domains}
 use Rattle.tables.specs.declared.table.TableFault.{TableFault}
 use Rattle.recomputing.specs.declared.path.Step.{Step}
 use Rattle.recomputing.specs.declared.path.Step.TheVariants.{Take, Drop}
-
--- the first k, the newest first
-abbrev pub steps : List Step → ℕ → List Step
-steps path zero = []
-steps path (suc k) = slice_index_or path k (Take 0 0) ∷ steps path k
 
 -- what a step does to a table, and what steps do one after the other
 abbrev pub decide : Step → Table → Table
@@ -67,14 +62,14 @@ abbrev pub Ranged : ℕ → ℕ → List Step → Type 0
 Ranged n w [] = Unit {0}
 Ranged n w (s ∷ ss) = ((variable s < n) × (value s < w)) × Ranged n w ss
 
--- a step made again on a table, and the first k steps of a path: never refused where their variables and values are there
+-- a step made again on a table, and the steps of a path, newest first: never refused where their variables and values are there
 abbrev pub Acts : TableState → Step → TableState → Result Bool TableFault → Type 0
 Acts s step t (Ok b) = t ≡ with_domains s (decide step s.domains)
 Acts s step t (Err e) = variable step < s.variables → value step < s.width → ⊥
 
-abbrev pub Replays : TableState → List Step → ℕ → TableState → Result Unit TableFault → Type 0
-Replays s path k t (Ok u) = t ≡ with_domains s (replayed s.domains (steps path k))
-Replays s path k t (Err e) = k ≤ length path → Ranged s.variables s.width (steps path k) → ⊥
+abbrev pub Replays : TableState → List Step → TableState → Result Unit TableFault → Type 0
+Replays s ss t (Ok u) = t ≡ with_domains s (replayed s.domains ss)
+Replays s ss t (Err e) = Ranged s.variables s.width ss → ⊥
 
 -- the newest take, and the steps before it
 abbrev pub last_take : List Step → Option (List Step × (ℕ × ℕ))
@@ -82,7 +77,7 @@ last_take [] = None
 last_take (Take x v ∷ ss) = Some (ss, (x, v))
 last_take (Drop x v ∷ ss) = last_take ss
 
--- where the newest take among the first k steps stands, and what it took
-abbrev pub Newest : List Step → ℕ → Option (ℕ × ℕ × ℕ) → Type 0
-Newest path k (Some r) = (r.0 < k) × (last_take (steps path k) ≡ Some (steps path r.0, (r.1, r.2)))
-Newest path k None = last_take (steps path k) ≡ None
+-- the newest take of the steps ss was taken off with those after it, and rs are left
+abbrev pub Unwinds : List Step → List Step → Option (ℕ × ℕ) → Type 0
+Unwinds ss rs (Some c) = last_take ss ≡ Some (rs, c)
+Unwinds ss rs None = last_take ss ≡ None

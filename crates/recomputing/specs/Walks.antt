@@ -1,7 +1,7 @@
 -- The nodes along a path. Assumes nothing.
-use Rattle.std.specs.Prelude.{◌≡◌, ℕ, zero, suc, ◌+◌, ◌*◌, ◌<◌, ◌≤◌, true, ◌≢◌, List, [], ◌∷◌, length, get_or, Some, None, slice_index_or, slice_set, refl}
-use Rattle.std.proofs.Common.{sym, ap, ◌∙◌, subst, ⊎_elim, arith, mul-le-mul, add-one, get_or-set_same, get_or-set_other}
-use Rattle.std.proofs.lemmas.Bool.{cases_eq}
+use Rattle.std.specs.Prelude.{◌≡◌, ℕ, zero, suc, ◌+◌, ◌*◌, ◌-◌, ◌<◌, ◌≤◌, true, List, [], ◌∷◌, length, get_or, Some, None, reverse, refl}
+use Rattle.std.proofs.Common.{ap, ◌∙◌, subst, arith, mul-le-mul}
+use Rattle.std.proofs.lemmas.List.{length-reverse, get_or-reverse}
 use Rattle.tree.specs.Tables.{Table, Inside, Choice, kept, dropped}
 use Rattle.tree.specs.Filter.{Problem, Lawful, Bounded, Node, failed, table, NodeOf}
 use Rattle.tree.specs.Find.{node, grid, total}
@@ -12,29 +12,9 @@ use Rattle.tree.proofs.Pairs.{count-inside, count-grid, kept_less, dropped_less}
 use Rattle.spaces.specs.Pile.{Stands}
 use Rattle.spaces.proofs.Singles.{stands-bounded}
 use Rattle.spaces.proofs.Stand.{stands-first, stands-taken, stands-dropped}
-use Rattle.recomputing.specs.Walk.{steps, decide, replayed, after, top, under, taken, variable, value, Made, Walked, Ranged, last_take}
+use Rattle.recomputing.specs.Walk.{decide, replayed, after, top, under, taken, variable, value, Made, Walked, Ranged, last_take}
 use Rattle.recomputing.specs.declared.path.Step.{Step}
 use Rattle.recomputing.specs.declared.path.Step.TheVariants.{Take, Drop}
-
--- the list of steps
-
-pub steps-length : (path : List Step) (k : ℕ) → length (steps path k) ≡ k
-steps-length path zero = refl
-steps-length path (suc k) = ap suc (steps-length path k)
-
-pub steps-set : (path : List Step) (j k : ℕ) (s : Step) → k ≤ j → steps (slice_set path j s) k ≡ steps path k
-steps-set path j zero s h = refl
-steps-set path j (suc k) s h =
-    let ne : k ≢ j = omega arith in
-    let here : get_or (slice_set path j s) k (Take 0 0) ≡ get_or path k (Take 0 0) = get_or-set_other path j k s (Take 0 0) ne in
-    let rest : steps (slice_set path j s) k ≡ steps path k = steps-set path j k s (omega arith) in
-    λ i. here i ∷ rest i
-
-pub steps_push : (path : List Step) (k : ℕ) (s : Step) → k < length path → steps (slice_set path k s) (k + 1) ≡ s ∷ steps path k
-steps_push path k s h =
-    let here : get_or (slice_set path k s) k (Take 0 0) ≡ s = get_or-set_same path k s (Take 0 0) h in
-    let rest : steps (slice_set path k s) k ≡ steps path k = steps-set path k k s (omega arith) in
-    ap (steps (slice_set path k s)) (add-one k) ∙ (λ i. here i ∷ rest i)
 
 pub decide-inside : (s : Step) (T : Table) → Inside (decide s T) T
 decide-inside (Take x v) T = kept-inside x v T
@@ -156,17 +136,15 @@ under-length P B [] = refl
 under-length P B (Take x v ∷ ss) = ap suc (under-length P B ss)
 under-length P B (Drop x v ∷ ss) = under-length P B ss
 
-pub found_take : (path : List Step) (i j x v : ℕ) → i ≡ suc j → slice_index_or path j (Take 0 0) ≡ Take x v → last_take (steps path i) ≡ Some (steps path j, (x, v))
-found_take path i j x v e h = ap (λ (k : ℕ). last_take (steps path k)) e ∙ ap (λ (s : Step). last_take (s ∷ steps path j)) h
+ranged_get : (n w : ℕ) (ss : List Step) (j : ℕ) → Ranged n w ss → j < length ss → (variable (get_or ss j (Take 0 0)) < n) × (value (get_or ss j (Take 0 0)) < w)
+ranged_get n w [] j r h = let z : ⊥ = omega arith in absurd z
+ranged_get n w (s ∷ ss) zero r h = r.0
+ranged_get n w (s ∷ ss) (suc j) r h = ranged_get n w ss j r.1 (omega arith)
 
-pub skip_drop : (path : List Step) (i j : ℕ) → i ≡ suc j → ((x v : ℕ) → slice_index_or path j (Take 0 0) ≢ Take x v) → last_take (steps path i) ≡ last_take (steps path j)
-skip_drop path i j e h = ap (λ (k : ℕ). last_take (steps path k)) e ∙ go (slice_index_or path j (Take 0 0)) refl
-  where
-    go : (s : Step) → slice_index_or path j (Take 0 0) ≡ s → last_take (s ∷ steps path j) ≡ last_take (steps path j)
-    go (Take x v) q = absurd (h x v q)
-    go (Drop x v) q = refl
-
-pub ranged_at : (n w : ℕ) (path : List Step) (k i : ℕ) → Ranged n w (steps path k) → i < k → (variable (slice_index_or path i (Take 0 0)) < n) × (value (slice_index_or path i (Take 0 0)) < w)
-ranged_at n w path zero i r h = let z : ⊥ = omega arith in absurd z
-ranged_at n w path (suc k) i r h =
-    ⊎_elim (λ (e : i ≡ k). subst (λ (j : ℕ). (variable (slice_index_or path j (Take 0 0)) < n) × (value (slice_index_or path j (Take 0 0)) < w)) (sym e) r.0) (λ ne. ranged_at n w path k i r.1 (omega arith)) (cases_eq i k)
+pub ranged_at : (n w : ℕ) (path : List Step) (i : ℕ) → Ranged n w (reverse path) → i < length path → (variable (get_or path i (Take 0 0)) < n) × (value (get_or path i (Take 0 0)) < w)
+ranged_at n w path i r h =
+    let j : ℕ = length path - 1 - i in
+    let l = length-reverse path in
+    let k : length path - 1 - j ≡ i = omega arith in
+    let e : get_or (reverse path) j (Take 0 0) ≡ get_or path i (Take 0 0) = get_or-reverse path j (Take 0 0) (omega arith) ∙ ap (λ (q : ℕ). get_or path q (Take 0 0)) k in
+    subst (λ (s : Step). (variable s < n) × (value s < w)) e (ranged_get n w (reverse path) j r (omega arith))

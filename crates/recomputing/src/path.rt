@@ -1,14 +1,23 @@
-ghost use Rattle.std.specs.Prelude.{◌≤◌, length};
+ghost use Rattle.std.specs.Prelude.{◌<◌, OnSome, reverse};
 ghost use Rattle.stores.specs.Rows.{Keeps};
-ghost use Rattle.recomputing.specs.Walk.{Acts, Replays, Newest};
+ghost use Rattle.arrayvec.specs.ArrayVec.{array_vec_len};
+ghost use Rattle.recomputing.specs.Walk.{Acts, Replays, Unwinds};
 
+use arrayvec::ArrayVec;
 use tables::table::{DomainTable, TableFault};
 
 // A step of the path: a take that stands, or a value that was dropped when its take was turned.
-#[derive(Clone, Copy)]
+#[derive(Clone, Copy, Drop)]
 pub enum Step {
     Take(usize, u8),
     Drop(usize, u8),
+}
+
+// What lies in unused places of a path.
+impl Default for Step {
+    fn default() -> Step {
+        Step::Take(0, 0)
+    }
 }
 
 // Makes the step on the table.
@@ -21,31 +30,27 @@ fn act<T: DomainTable>(table: &mut T, step: Step) -> Result<bool, TableFault>
     }
 }
 
-// Makes the first k steps on the table, the oldest first.
-pub fn replay<T: DomainTable>(table: &mut T, path: &[Step], k: usize) -> Result<(), TableFault>
-    ensures { Keeps T.DomainTable.sound table.old table.new (Replays (T.DomainTable.means table.old) path.now k (T.DomainTable.means table.new) result) }
+// Makes the steps on the table, the oldest first.
+pub fn replay<T: DomainTable>(table: &mut T, path: &[Step]) -> Result<(), TableFault>
+    ensures { Keeps T.DomainTable.sound table.old table.new (Replays (T.DomainTable.means table.old) (reverse path.now) (T.DomainTable.means table.new) result) }
 {
-    for i in 0..k {
-        if i >= path.len() {
-            return Err(TableFault::NoSuch(i));
-        }
-        act(table, path[i])?;
+    for step in path {
+        act(table, *step)?;
     }
     Ok(())
 }
 
-// Where the newest take of the first k steps stands, and what it took.
-pub fn newest(path: &[Step], k: usize) -> Option<(usize, usize, u8)>
-    ensures { k ≤ length path.now → Newest path.now k result }
+// Takes the newest take off the path, with the steps after it, and answers what it took.
+pub fn unwind(path: &mut ArrayVec<Step, 4096>) -> Option<(usize, u8)>
+    ensures unwinds { Unwinds (reverse path.old.items) (reverse path.new.items) result }
+    ensures room { OnSome result (array_vec_len path.new < 4096) }
 {
-    let mut i = k;
-    while i > 0 {
-        i -= 1;
-        if i >= path.len() {
+    for _step in 0..path.len() {
+        let Some(step) = path.pop() else {
             return None;
-        }
-        if let Step::Take(x, v) = path[i] {
-            return Some((i, x, v));
+        };
+        if let Step::Take(x, v) = step {
+            return Some((x, v));
         }
     }
     None

@@ -1,244 +1,165 @@
-ghost use Rattle.std.specs.Prelude.{◌≡◌, []};
+ghost use Rattle.std.specs.Prelude.{◌≡◌, [], reverse};
 ghost use Rattle.model.specs.Meaning.{means as model-means};
 ghost use Rattle.kinds.specs.Problems.{problem};
 ghost use Rattle.spaces.specs.Tops.{opened, base_table};
-ghost use Rattle.recomputing.specs.Recomputed.{recomputing, Sound, depth_over};
+ghost use Rattle.recomputing.specs.Recomputed.{meaning, IsSound, depth_over};
 ghost use Rattle.recomputing.specs.Laws.{recomputing_laws};
 
-use crate::path::{Step, newest, replay};
-use filtering::filter::{Start, filter};
-use filtering::list::WaitingList;
+use crate::path::{Step, replay, unwind};
+use arrayvec::ArrayVec;
+use filtering::filter::Start;
 use kinds::kind::Kinds;
 use model::model::Model;
-use spaces::ask::{chosen, some_open};
+use spaces::ask::chosen;
+use spaces::base::{Base, Top};
 use spaces::space::{Space, SpaceFault, State};
-use tables::table::{DomainTable, TableFault};
+use tables::table::DomainTable;
 
 // Takes never outnumber the variables, of which a model has at most 64.
 const MOST: usize = 64;
 
-// Each step takes a value away, and there are at most 64 variables with 64 values.
-const STEPS: usize = 4096;
-
-// A space that marks its table at the base alone and keeps the path from there. It borrows the model, and holds the table and
-// the kinds.
+// A space that marks its table at the base alone and keeps the path from there.
 #[derive(Drop)]
 pub struct Recomputing<'m, T: DomainTable, K: Kinds> {
-    table: T,
-    kinds: K,
-    model: &'m Model,
-    list: WaitingList,
-    run: bool,
-    // whether the top is a filtered table
-    alive: bool,
+    base: Base<'m, T, K>,
     // how many takes stand
     takes: usize,
-    // how many steps the path has
-    count: usize,
-    path: [Step; 4096],
+    // Each step takes a value away, and there are at most 64 variables with 64 values.
+    path: ArrayVec<Step, 4096>,
 }
 
 impl<'m, T: DomainTable, K: Kinds> Recomputing<'m, T, K> {
     // Opens a space over the table as its base, without a run.
     pub fn open(table: T, kinds: K, model: &'m Model) -> Recomputing<'m, T, K>
-        ensures means { recomputing K.Kinds.demands (model-means result.model.now) (T.DomainTable.means result.table) result.run result.count result.path ≡ opened (problem K.Kinds.demands (model-means model.now) (T.DomainTable.means table).width) (T.DomainTable.means table) (depth_over (T.DomainTable.means table).depth) }
-        ensures sound { T.DomainTable.sound table → Sound (T.DomainTable.sound result.table) K.Kinds.demands (model-means result.model.now) (T.DomainTable.means result.table) result.run result.alive result.takes result.count result.path }
+        ensures means { meaning K.Kinds.demands T.DomainTable.means result ≡ opened (problem K.Kinds.demands (model-means model.now) (T.DomainTable.means table).width) (T.DomainTable.means table) (depth_over (T.DomainTable.means table).depth) }
+        ensures sound { T.DomainTable.sound table → IsSound T.DomainTable.sound K.Kinds.demands T.DomainTable.means result }
     {
         Recomputing {
-            table,
-            kinds,
-            model,
-            list: WaitingList::new(),
-            run: false,
-            alive: true,
+            base: Base::open(table, kinds, model),
             takes: 0,
-            count: 0,
-            path: [Step::Take(0, 0); 4096],
+            path: ArrayVec::new(),
         }
     }
 
     // The table and the kinds, as they stand: without a run the table is the base.
     pub fn into_parts(self) -> (T, K)
-        ensures parts { (result.0 ≡ self.entry.table) × (result.1 ≡ self.entry.kinds) }
-        ensures base { (recomputing K.Kinds.demands (model-means self.entry.model.now) (T.DomainTable.means self.entry.table) self.entry.run self.entry.count self.entry.path).pile ≡ [] → T.DomainTable.means result.0 ≡ base_table (recomputing K.Kinds.demands (model-means self.entry.model.now) (T.DomainTable.means self.entry.table) self.entry.run self.entry.count self.entry.path) }
+        ensures parts { (result.0 ≡ self.entry.base.table) × (result.1 ≡ self.entry.base.kinds) }
+        ensures base { (meaning K.Kinds.demands T.DomainTable.means self.entry).pile ≡ [] → T.DomainTable.means result.0 ≡ base_table (meaning K.Kinds.demands T.DomainTable.means self.entry) }
     {
         let Recomputing {
-            table,
-            kinds,
-            model: _,
-            list: _,
-            run: _,
-            alive: _,
+            base,
             takes: _,
-            count: _,
             path: _,
         } = self;
-        (table, kinds)
+        base.into_parts()
     }
 }
 
 impl<'m, T: DomainTable, K: Kinds> Space for Recomputing<'m, T, K> {
-    ghost means = { λ s. recomputing K.Kinds.demands (model-means s.model.now) (T.DomainTable.means s.table) s.run s.count s.path };
+    ghost means = { meaning K.Kinds.demands T.DomainTable.means };
 
-    ghost sound = { λ s. Sound (T.DomainTable.sound s.table) K.Kinds.demands (model-means s.model.now) (T.DomainTable.means s.table) s.run s.alive s.takes s.count s.path };
+    ghost sound = { IsSound T.DomainTable.sound K.Kinds.demands T.DomainTable.means };
 
-    ghost laws = { λ s sound. recomputing_laws K.Kinds.demands (model-means s.model.now) (T.DomainTable.sound s.table) (T.DomainTable.means s.table) s.run s.alive s.takes s.count s.path (T.DomainTable.bounded s.table sound.part) sound };
+    ghost laws = { λ s sound. recomputing_laws K.Kinds.demands (model-means s.base.model.now) (T.DomainTable.sound s.base.table) (T.DomainTable.means s.base.table) s.base.top s.takes (reverse s.path.items) (T.DomainTable.bounded s.base.table sound.part) sound };
 
     fn enter(&mut self) -> Result<(), SpaceFault> {
-        if self.run {
-            return Err(SpaceFault::Busy(self.takes.saturating_add(1)));
+        if self.base.top.is_some() {
+            return Err(SpaceFault::Busy(self.nodes()));
         }
-        let marks = self.table.marks();
-        if self.table.variables() != self.model.variables() {
-            return Err(SpaceFault::Base(marks));
-        }
-        if marks != 0 {
-            return Err(SpaceFault::Base(marks));
-        }
-        self.table.mark()?;
-        self.alive = filter(
-            &mut self.table,
-            self.model,
-            &self.kinds,
-            &mut self.list,
-            Start::All,
-        )?;
-        self.run = true;
-        Ok(())
+        self.base.begin()
     }
 
     fn take(&mut self, x: usize, v: u8) -> Result<(), SpaceFault> {
-        if !self.run {
-            return Err(SpaceFault::Idle);
+        match self.base.top {
+            None => return Err(SpaceFault::Idle),
+            Some(Top::Failed) => return Err(SpaceFault::Failed(self.nodes())),
+            Some(Top::Live) => {}
         }
-        if !self.alive {
-            return Err(SpaceFault::Failed(self.takes.saturating_add(1)));
-        }
-        if !chosen(&self.table, x, v) {
+        if !chosen(&self.base.table, x, v) {
             return Err(SpaceFault::NoChoice(x));
         }
-        let takes = self.takes;
-        if takes >= MOST {
+        if self.takes >= MOST {
             return Err(SpaceFault::NoChoice(x));
         }
-        let count = self.count;
-        if count >= STEPS {
+        if self.path.is_full() {
             return Err(SpaceFault::NoChoice(x));
         }
-        self.table.keep(x, v)?;
-        self.alive = filter(
-            &mut self.table,
-            self.model,
-            &self.kinds,
-            &mut self.list,
-            Start::Changed(x),
-        )?;
-        self.path[count] = Step::Take(x, v);
-        self.count = count + 1;
-        self.takes = takes + 1;
+        self.base.table.keep(x, v)?;
+        self.base.filtered(Start::Changed(x))?;
+        self.path.push(Step::Take(x, v));
+        self.takes += 1;
         Ok(())
     }
 
     fn turn(&mut self) -> Result<(), SpaceFault> {
-        if !self.run {
+        if self.base.top.is_none() {
             return Err(SpaceFault::Idle);
         }
         if self.takes == 0 {
             return Err(SpaceFault::NoTake);
         }
-        let Some((last, x, v)) = newest(&self.path, self.count) else {
+        let Some((x, v)) = unwind(&mut self.path) else {
             return Err(SpaceFault::NoTake);
         };
-        if last >= STEPS {
-            return Err(SpaceFault::NoTake);
-        }
-        self.table.restore()?;
-        self.table.mark()?;
-        self.path[last] = Step::Drop(x, v);
-        replay(&mut self.table, &self.path, last + 1)?;
-        self.alive = filter(
-            &mut self.table,
-            self.model,
-            &self.kinds,
-            &mut self.list,
-            Start::All,
-        )?;
-        self.count = last + 1;
+        self.base.table.restore()?;
+        self.base.table.mark()?;
+        self.path.push(Step::Drop(x, v));
+        replay(&mut self.base.table, self.path.as_slice())?;
+        self.base.filtered(Start::All)?;
         self.takes -= 1;
         Ok(())
     }
 
     fn leave(&mut self) -> Result<(), SpaceFault> {
-        if !self.run {
+        if self.base.top.is_none() {
             return Err(SpaceFault::Idle);
         }
-        self.table.restore()?;
-        self.run = false;
+        self.base.table.restore()?;
+        self.base.top = None;
         self.takes = 0;
-        self.count = 0;
+        self.path.clear();
         Ok(())
     }
 
     fn state(&self) -> State {
-        if !self.run {
-            return State::NoRun;
-        }
-        if !self.alive {
-            return State::Failed;
-        }
-        if some_open(&self.table) {
-            State::Open
-        } else {
-            State::Plan
-        }
+        self.base.state()
     }
 
     fn variables(&self) -> usize {
-        self.model.variables()
+        self.base.model.variables()
     }
 
     fn domains(&self) -> usize {
-        self.table.variables()
+        self.base.table.variables()
     }
 
     fn depth(&self) -> usize {
-        if self.table.depth() == 0 { 0 } else { MOST }
+        match self.base.table.depth() {
+            0 => 0,
+            _ => MOST,
+        }
     }
 
     fn nodes(&self) -> usize {
-        let nodes = self.takes.saturating_add(1);
-        if self.run { nodes } else { 0 }
+        match self.base.top {
+            Some(_) => self.takes.saturating_add(1),
+            None => 0,
+        }
     }
 
     fn has(&self, x: usize, v: u8) -> Result<bool, SpaceFault> {
-        if self.run && !self.alive {
-            return Err(SpaceFault::Failed(self.takes.saturating_add(1)));
-        }
-        let there = self.table.has(x, v)?;
-        Ok(there)
+        self.base.has(self.nodes(), x, v)
     }
 
     fn size(&self, x: usize) -> Result<u32, SpaceFault> {
-        if self.run && !self.alive {
-            return Err(SpaceFault::Failed(self.takes.saturating_add(1)));
-        }
-        let size = self.table.size(x)?;
-        Ok(size)
+        self.base.size(self.nodes(), x)
     }
 
     fn least(&self, x: usize) -> Result<Option<u8>, SpaceFault> {
-        if self.run && !self.alive {
-            return Err(SpaceFault::Failed(self.takes.saturating_add(1)));
-        }
-        let least = self.table.least(x)?;
-        Ok(least)
+        self.base.least(self.nodes(), x)
     }
 
     fn greatest(&self, x: usize) -> Result<Option<u8>, SpaceFault> {
-        if self.run && !self.alive {
-            return Err(SpaceFault::Failed(self.takes.saturating_add(1)));
-        }
-        let greatest = self.table.greatest(x)?;
-        Ok(greatest)
+        self.base.greatest(self.nodes(), x)
     }
 }

@@ -1,21 +1,18 @@
 -- Filtering in the words of nodes, after a decision and from the base. Assumes nothing.
-use Rattle.std.proofs.Common.{◌≡◌, ℕ, Bool, true, false, not, ◌&&◌, ◌||◌, eqb, ◌≢◌, List, [], ◌∷◌, length, Ok, sym, refl, ap, ◌∙◌, subst, arith}
+use Rattle.std.proofs.Common.{◌≡◌, ℕ, Bool, true, false, not, ◌&&◌, ◌||◌, eqb, ◌≢◌, List, [], ◌∷◌, length, Some, Ok, sym, refl, ap, ◌∙◌, subst, arith}
 use Rattle.std.proofs.lemmas.Bool.{ne_eqb}
 use Rattle.tree.specs.Tables.{Table, kept, dropped}
-use Rattle.tree.specs.Filter.{Problem, NodeOf}
+use Rattle.tree.specs.Filter.{NodeOf}
 use Rattle.model.specs.Values.{Value}
-use Rattle.tables.specs.States.{TableState, with_domains}
+use Rattle.tables.specs.States.{TableState}
 use Rattle.tables.specs.Calls.{Restores}
 use Rattle.kinds.specs.Demands.{Demands}
 use Rattle.kinds.specs.Problems.{problem}
-use Rattle.filtering.specs.Filters.{Begins, Filters}
+use Rattle.filtering.specs.Filters.{Begins}
 use Rattle.filtering.specs.declared.filter.Start.TheVariants.{Changed}
 use Rattle.spaces.specs.Tops.{shown, stacked}
-
--- filtering leaves the node of what it was given
-node_of : (P : Problem) (s t : TableState) (alive : Bool) → Filters P s t (Ok alive) → NodeOf P s.domains (shown alive t.domains) × (t ≡ with_domains s t.domains)
-node_of P s t true f = (f.1, f.0.others)
-node_of P s t false f = (f.1, f.0.others)
+use Rattle.spaces.specs.Bases.{Lands}
+use Rattle.spaces.specs.declared.base.Top.{Top}
 
 and_true : (b : Bool) → (b && true) ≡ b
 and_true true = refl
@@ -34,11 +31,9 @@ none_of (T ∷ Ts) e = let z : ⊥ = omega arith in absurd z
 
 module _ (D : Demands) (m : Value) where
   -- t3 comes of filtering t2, which is t with the domains E and the saved tables Ts
-  pub filtered : (t t2 t3 : TableState) (alive : Bool) (E : Table) (Ts : List Table) → t2 ≡ stacked t E Ts → Filters (problem D m t2.width) t2 t3 (Ok alive) →
-      NodeOf (problem D m t.width) E (shown alive t3.domains) × (t3 ≡ stacked t t3.domains Ts)
-  filtered t t2 t3 alive E Ts e f =
-      subst (λ (s : TableState). NodeOf (problem D m s.width) s.domains (shown alive t3.domains) × (t3 ≡ with_domains s t3.domains)) e
-      (node_of (problem D m t2.width) t2 t3 alive f)
+  pub filtered : (t t2 t3 : TableState) (a : Top) (E : Table) (Ts : List Table) → t2 ≡ stacked t E Ts → Lands (problem D m t2.width) t2 t3 (Some a) (Ok tt) →
+      NodeOf (problem D m t.width) E (shown a t3.domains) × (t3 ≡ stacked t t3.domains Ts)
+  filtered t t2 t3 a E Ts e f = subst (λ (s : TableState). Lands (problem D m s.width) s t3 (Some a) (Ok tt)) e f
 
   -- only the records that name x have to wait where x was decided at a stable table
   pub begins_kept : (t t2 : TableState) (T : Table) (Ts : List Table) (x v : ℕ) → t2 ≡ stacked t (kept x v T) Ts → (problem D m t.width).stable T ≡ true →

@@ -1,6 +1,6 @@
 -- Open variables, by the size of their domains. Assumes nothing.
-use Rattle.std.proofs.Common.{◌≡◌, ℕ, ◌+◌, ◌<◌, ◌≤◌, true, false, ltb, sym, ap, ◌∙◌, subst, add-one}
-use Rattle.std.proofs.lemmas.Bool.{both_ways, or_from, lt-ltb, le-ltb, ltb-true}
+use Rattle.std.proofs.Common.{◌≡◌, ℕ, ◌<◌, true, false, ltb, sym, ap, ◌∙◌, subst}
+use Rattle.std.proofs.lemmas.Bool.{both_ways, lt-ltb, ltb-true}
 use Rattle.tree.specs.Tables.{Table, Open}
 use Rattle.tree.specs.Domains.{size}
 use Rattle.tree.proofs.Domains.{size_open, open_size, has_some_from, has_some_to}
@@ -19,11 +19,6 @@ open_above s x k b e o = subst (λ (n : ℕ). 1 < n) (sym e) (size_above s.varia
 
 pub open_bound : (s : TableState) (x : ℕ) → Bounds s → Open s.domains x → x < s.variables
 open_bound s x b o = (b.within x o.one o.has_one).0
-
--- the test of open variables: none so far, and one found
-pub none_more : (T : Table) (w x k : ℕ) → k ≡ size (T x) w → k ≤ 1 → has_open x w T ≡ false → has_open (x + 1) w T ≡ false
-none_more T w x k e l h =
-    ap (λ (n : ℕ). has_open n w T) (add-one x) ∙ or_from (ltb 1 (size (T x) w)) (has_open x w T) (ap (ltb 1) (sym e) ∙ le-ltb 1 k l) h
 
 pub found-one : (T : Table) (n w x k : ℕ) → x < n → k ≡ size (T x) w → 1 < k → has_open n w T ≡ true
 found-one T n w x k h e l = has_some_from (λ y. ltb 1 (size (T y) w)) n x h (ap (ltb 1) (sym e) ∙ lt-ltb 1 k l)

@@ -7,7 +7,7 @@ use Rattle.tree.proofs.Filter.{bounded-inside}
 use Rattle.spaces.specs.Pile.{SpaceState, Ready, Settles, Below, Stands}
 use Rattle.spaces.specs.Calls.{Puts, Unmarked, enters, takes, turns, Enters, Takes, Turns}
 use Rattle.spaces.specs.declared.space.SpaceFault.{SpaceFault}
-use Rattle.spaces.specs.declared.space.SpaceFault.TheVariants.{Busy, Failed}
+use Rattle.spaces.specs.declared.space.SpaceFault.TheVariants.{Failed}
 use Rattle.spaces.proofs.Singles.{singles_open, stands-few}
 
 below_of : (P : Problem) (D : Table) (N : Node) → NodeOf P D N → Below N D
@@ -65,15 +65,8 @@ module _ (P : Problem) where
 -- the relations of the calls, where the pile is known
 
 module _ (s t : SpaceState) where
-  pub busy : (p : List Node) (k m : ℕ) → length p ≡ suc k → m ≡ length p → enters s p t (Err (Busy m))
-  busy [] k m e h = let z : ⊥ = omega arith in absurd z
-  busy (N ∷ p) k m e h = (refl, h)
-
   pub entered : s.pile ≡ [] → Ready s → 0 < s.room → Puts s s.base [] [] t → Enters s t (Ok tt)
   entered e r z h = subst (λ (q : List Node). enters s q t (Ok tt)) (sym e) (r, z, h)
-
-  pub roomless : (f : SpaceFault) → s.pile ≡ [] → Ready s → s.room ≡ 0 → Unmarked f 0 → Enters s t (Err f)
-  roomless f e r z h = subst (λ (q : List Node). enters s q t (Err f)) (sym e) (inr (r, z, h))
 
   pub stuck : (x v m : ℕ) (q : List Node) → s.pile ≡ failed ∷ q → m ≡ suc (length q) → Takes s x v t (Err (Failed m))
   stuck x v m q e h = subst (λ (p : List Node). takes s x v p t (Err (Failed m))) (sym e) (refl, h)

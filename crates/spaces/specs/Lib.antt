@@ -1,3 +1,4 @@
 pub mod Pile
 pub mod Tops
 pub mod Calls
+pub mod Bases

@@ -1,14 +1,21 @@
 -- The table that a space holds: the node that it shows, and the space that is opened over it. Assumes nothing.
-use Rattle.std.specs.Prelude.{ℕ, Bool, true, false, List, []}
+use Rattle.std.specs.Prelude.{ℕ, List, [], ◌∷◌, Some, None, Option}
 use Rattle.tree.specs.Tables.{Table}
 use Rattle.tree.specs.Filter.{Problem, Node, failed, table}
 use Rattle.tables.specs.States.{TableState}
 use Rattle.spaces.specs.Pile.{SpaceState}
+use Rattle.spaces.specs.declared.base.Top.{Top}
+use Rattle.spaces.specs.declared.base.Top.TheVariants.{Live, Failed}
 
 -- a filtered table, or what is left of a table that failed
-abbrev pub shown : Bool → Table → Node
-shown true T = table T
-shown false T = failed
+abbrev pub shown : Top → Table → Node
+shown Live T = table T
+shown Failed T = failed
+
+-- the top of the pile, or none without a run
+abbrev pub topmost : Option Top → Table → List Node
+topmost None T = []
+topmost (Some a) T = shown a T ∷ []
 
 -- the same table with other domains and other saved tables
 abbrev pub stacked : TableState → Table → List Table → TableState

@@ -1,4 +1,5 @@
 #![tactic(auto)]
 
 pub mod ask;
+pub mod base;
 pub mod space;

@@ -4,6 +4,7 @@ ghost use Rattle.spaces.specs.Pile.{SpaceState, Laws};
 ghost use Rattle.spaces.specs.Calls.{number, place, Enters, Takes, Turns, Leaves, state_of, Tells, Sizes, Leasts, Greatests};
 ghost use Rattle.spaces.specs.declared.space.SpaceFault.TheVariants.{Table as FromTable};
 
+use faults::Fault;
 use tables::table::TableFault;
 
 // Why a space refused a call.
@@ -33,11 +34,12 @@ impl From<TableFault> for SpaceFault {
     }
 }
 
-impl SpaceFault {
-    // The published number of the fault.
-    pub fn number(&self) -> u8
-        ensures { result ≡ number self.now }
-    {
+impl Fault for SpaceFault {
+    ghost number = { number };
+
+    ghost place = { place };
+
+    fn number(&self) -> u8 {
         match self {
             SpaceFault::Busy(_) => 31,
             SpaceFault::Idle => 32,
@@ -49,17 +51,13 @@ impl SpaceFault {
         }
     }
 
-    // The published place of the fault.
-    pub fn place(&self) -> usize
-        ensures { result ≡ place self.now }
-    {
+    fn place(&self) -> usize {
         match self {
-            SpaceFault::Busy(nodes) => *nodes,
-            SpaceFault::Failed(nodes) => *nodes,
-            SpaceFault::NoChoice(variable) => *variable,
-            SpaceFault::Base(marks) => *marks,
-            SpaceFault::Idle => 0,
-            SpaceFault::NoTake => 0,
+            SpaceFault::Busy(at)
+            | SpaceFault::Failed(at)
+            | SpaceFault::NoChoice(at)
+            | SpaceFault::Base(at) => *at,
+            SpaceFault::Idle | SpaceFault::NoTake => 0,
             SpaceFault::Table(fault) => fault.place(),
         }
     }

@@ -1,18 +1,8 @@
 // Compares a space with the judge, call by call and question by question.
-use crate::judge::{Call, Judge, Refusal, count, has};
-use crate::sample::mixed;
+use crate::judge::{Call, Judge, Node, count, has};
 use spaces::space::{Space, SpaceFault, State};
 use std::alloc::AllocError;
-
-fn told<X: Drop>(answer: Result<X, SpaceFault>) -> Option<Refusal> {
-    match answer {
-        Ok(_) => None,
-        Err(fault) => Some(Refusal {
-            number: fault.number(),
-            place: fault.place(),
-        }),
-    }
-}
+use trial::{Refusal, mixed, told};
 
 fn perform<S: Space>(space: &mut S, call: Call) -> Option<Refusal> {
     told(match call {
@@ -24,10 +14,7 @@ fn perform<S: Space>(space: &mut S, call: Call) -> Option<Refusal> {
 }
 
 fn refused<X: Drop>(answer: Result<X, SpaceFault>, number: u8, place: usize) -> bool {
-    match told(answer) {
-        None => false,
-        Some(refusal) => refusal.number == number && refusal.place == place,
-    }
+    told(answer) == Some(Refusal { number, place })
 }
 
 fn all_refused<S: Space>(space: &S, x: usize, number: u8, place: usize) -> bool {
@@ -38,85 +25,52 @@ fn all_refused<S: Space>(space: &S, x: usize, number: u8, place: usize) -> bool 
 }
 
 fn least_of(set: u64) -> Option<u8> {
-    for v in 0..64u8 {
-        if has(set, v) {
-            return Some(v);
-        }
-    }
-    None
+    (0..64u8).find(|v| has(set, *v))
 }
 
 fn greatest_of(set: u64) -> Option<u8> {
-    let mut found = None;
-    for v in 0..64u8 {
-        if has(set, v) {
-            found = Some(v);
-        }
-    }
-    found
+    (0..64u8).rev().find(|v| has(set, *v))
 }
 
 fn same_domain<S: Space>(space: &S, x: usize, set: u64) -> bool {
-    for v in 0..64u8 {
-        match space.has(x, v) {
-            Ok(found) => {
-                if found != has(set, v) {
-                    return false;
-                }
-            }
-            Err(_) => return false,
-        }
-    }
-    let size = match space.size(x) {
-        Ok(size) => size == count(set),
-        Err(_) => false,
-    };
-    let least = match space.least(x) {
-        Ok(least) => least == least_of(set),
-        Err(_) => false,
-    };
-    let greatest = match space.greatest(x) {
-        Ok(greatest) => greatest == greatest_of(set),
-        Err(_) => false,
-    };
-    size && least && greatest && refused(space.has(x, 64), 21, x)
+    (0..64u8).all(|v| space.has(x, v) == Ok(has(set, v)))
+        && space.size(x) == Ok(count(set))
+        && space.least(x) == Ok(least_of(set))
+        && space.greatest(x) == Ok(greatest_of(set))
+        && refused(space.has(x, 64), 21, x)
 }
 
 fn state_of(judge: &Judge) -> State {
-    if !judge.run {
-        return State::NoRun;
-    }
-    if !judge.top.alive {
-        return State::Failed;
-    }
-    for x in 0..judge.domains {
-        if count(judge.set(x)) > 1 {
-            return State::Open;
+    match judge.top {
+        None => State::NoRun,
+        Some(Node::Failed(_)) => State::Failed,
+        Some(Node::Filtered(_)) => {
+            if (0..judge.base.domains).any(|x| count(judge.set(x)) > 1) {
+                State::Open
+            } else {
+                State::Plan
+            }
         }
     }
-    State::Plan
 }
 
 // Whether every question is answered as the judge would.
 pub fn same<S: Space>(space: &S, judge: &Judge) -> bool {
     let nodes = judge.nodes();
+    let domains = judge.base.domains;
     if space.state() != state_of(judge)
         || space.nodes() != nodes
-        || space.depth() != judge.depth
+        || space.depth() != judge.base.depth
         || space.variables() != judge.sample.variables as usize
-        || space.domains() != judge.domains
+        || space.domains() != domains
     {
         return false;
     }
-    if judge.run && !judge.top.alive {
+    if let Some(Node::Failed(_)) = judge.top {
         return all_refused(space, 0, 33, nodes) && all_refused(space, 99, 33, nodes);
     }
-    for x in 0..judge.domains {
-        if !same_domain(space, x, judge.set(x)) {
-            return false;
-        }
-    }
-    all_refused(space, judge.domains, 21, judge.domains)
+    (0..domains).all(|x| same_domain(space, x, judge.set(x)))
+        && all_refused(space, domains, 21, domains)
         && all_refused(space, usize::MAX, 21, usize::MAX)
 }
 
@@ -133,17 +87,13 @@ pub fn agree_on<S: Space>(
 // Any call; most takes are of a value that is there.
 fn any_call(judge: &Judge, seed: u64) -> Call {
     let x = ((seed >> 8) % u64::from(judge.sample.variables.saturating_add(2))) as usize;
-    let least = match least_of(judge.set(x)) {
-        Some(v) => v,
-        None => 0,
-    };
     match seed % 32 {
         0 => Call::Enter,
         1 if (seed >> 20) % 4 == 0 => Call::Leave,
-        2 | 3 | 4 | 5 | 6 | 7 | 8 | 9 | 10 => Call::Turn,
-        11 | 12 => Call::Take(usize::MAX, 0),
-        13 | 14 | 15 => Call::Take(x, ((seed >> 40) % 70) as u8),
-        _ => Call::Take(x, least),
+        2..=10 => Call::Turn,
+        11..=12 => Call::Take(usize::MAX, 0),
+        13..=15 => Call::Take(x, ((seed >> 40) % 70) as u8),
+        _ => Call::Take(x, least_of(judge.set(x)).unwrap_or(0)),
     }
 }
 
@@ -171,11 +121,8 @@ pub fn agree_on_a_chain<S: Space>(space: &mut S, judge: &mut Judge) -> Result<bo
         if !agree_on(space, judge, Call::Enter)? || !agree_on(space, judge, Call::Enter)? {
             return Ok(false);
         }
-        for x in 0..judge.domains.saturating_add(1) {
-            let least = match least_of(judge.set(x)) {
-                Some(v) => v,
-                None => 0,
-            };
+        for x in 0..judge.base.domains.saturating_add(1) {
+            let least = least_of(judge.set(x)).unwrap_or(0);
             if !agree_on(space, judge, Call::Take(x, least))? {
                 return Ok(false);
             }

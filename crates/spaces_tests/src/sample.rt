@@ -1,5 +1,6 @@
 // Models by their windows and rules, and their bytes.
 use std::alloc::{AllocError, Global};
+use trial::mixed;
 
 // The variables of the set all differ; or the sum of coefficients times variables, of the first eight, is at most the bound.
 #[derive(Clone, Copy, Drop)]
@@ -14,12 +15,6 @@ pub struct Sample {
     pub variables: u8,
     pub high: u8,
     pub rules: [Rule; 3],
-}
-
-pub fn mixed(seed: u64) -> u64 {
-    let a = seed ^ (seed << 13);
-    let b = a ^ (a >> 7);
-    b ^ (b << 17)
 }
 
 fn coefficient(seed: u64, place: u64) -> i8 {
@@ -70,12 +65,7 @@ pub fn listed(set: u64, x: u8) -> bool {
 fn push_rule(bytes: &mut Vec<u8>, variables: u8, rule: Rule) -> Result<(), AllocError> {
     match rule {
         Rule::Different(set) => {
-            let mut count: u8 = 0;
-            for x in 0..variables {
-                if listed(set, x) {
-                    count = count.saturating_add(1);
-                }
-            }
+            let count = (0..variables).filter(|x| listed(set, *x)).count() as u8;
             if count < 2 {
                 return Ok(());
             }
@@ -88,12 +78,8 @@ fn push_rule(bytes: &mut Vec<u8>, variables: u8, rule: Rule) -> Result<(), Alloc
             }
         }
         Rule::AtMost(bound, coefficients) => {
-            let mut count: u8 = 0;
-            for x in 0..variables.min(8) {
-                if coefficients[x as usize] != 0 {
-                    count = count.saturating_add(1);
-                }
-            }
+            let named = coefficients.iter().take(variables as usize);
+            let count = named.filter(|factor| **factor != 0).count() as u8;
             if count == 0 {
                 return Ok(());
             }
@@ -102,11 +88,10 @@ fn push_rule(bytes: &mut Vec<u8>, variables: u8, rule: Rule) -> Result<(), Alloc
             for byte in bound.to_le_bytes() {
                 bytes.push(byte)?;
             }
-            for x in 0..variables.min(8) {
-                let factor = coefficients[x as usize];
-                if factor != 0 {
-                    bytes.push(x)?;
-                    for byte in i16::from(factor).to_le_bytes() {
+            for (x, factor) in coefficients.iter().enumerate().take(variables as usize) {
+                if *factor != 0 {
+                    bytes.push(x as u8)?;
+                    for byte in i16::from(*factor).to_le_bytes() {
                         bytes.push(byte)?;
                     }
                 }

@@ -1,17 +1,23 @@
-use crate::memory::Case;
-use crate::sample::{Rule, Sample, bytes_of, mixed, sample_by};
+use crate::memory::{Case, Given};
+use crate::sample::{Rule, Sample, bytes_of, sample_by};
 use model::model::Model;
 use std::alloc::Global;
 use std::process::Abort;
 use std::test::Fail;
+use trial::mixed;
 
 fn agrees(rt: &impl Abort, heap: Global, sample: Sample, case: Case) -> Result<(), Fail> {
     let bytes = bytes_of(heap, &sample)?;
     let mut model = Model::fresh();
     model.read(&bytes)?;
-    assert!(rt; case.on_trail(heap, &model, sample)?, "trail");
-    assert!(rt; case.on_copies(heap, &model, sample)?, "copies");
-    assert!(rt; case.on_layers(heap, &model, sample)?, "layers");
+    let given = Given {
+        heap,
+        model: &model,
+        sample,
+    };
+    assert!(rt; case.on_trail(given)?, "trail");
+    assert!(rt; case.on_copies(given)?, "copies");
+    assert!(rt; case.on_layers(given)?, "layers");
     Ok(())
 }
 
@@ -35,8 +41,10 @@ fn scripts_by_chance(rt: HostRuntime) -> Result<(), Fail> {
         seed = mixed(seed);
         let sample = sample_by(seed);
         let depth = if round % 4 == 0 { 3 } else { 65 };
-        let mut one = case(sample.variables as usize, depth);
-        one.seed = seed | 1;
+        let one = Case {
+            seed: seed | 1,
+            ..case(sample.variables as usize, depth)
+        };
         agrees(&rt, heap, sample, one)?;
     }
     Ok(())
@@ -53,8 +61,10 @@ fn a_chain_of_sixty_four_takes(rt: HostRuntime) -> Result<(), Fail> {
         rules: [none, Rule::Different(3), none],
     };
     for depth in [65, 64, 20] {
-        let mut one = case(64, depth);
-        one.steps = 40;
+        let one = Case {
+            steps: 40,
+            ..case(64, depth)
+        };
         agrees(&rt, heap, sample, one)?;
     }
     Ok(())
@@ -70,11 +80,15 @@ fn bases_of_every_kind(rt: HostRuntime) -> Result<(), Fail> {
         agrees(&rt, heap, sample, case(variables, depth))?;
         agrees(&rt, heap, sample, case(variables.saturating_sub(1), depth))?;
         agrees(&rt, heap, sample, case(variables.saturating_add(3), depth))?;
-        let mut emptied = case(variables, depth);
-        emptied.emptied = Some(1);
+        let emptied = Case {
+            emptied: Some(1),
+            ..case(variables, depth)
+        };
         agrees(&rt, heap, sample, emptied)?;
-        let mut marked = case(variables, depth);
-        marked.marks = 2;
+        let marked = Case {
+            marks: 2,
+            ..case(variables, depth)
+        };
         agrees(&rt, heap, sample, marked)?;
     }
     Ok(())
