@@ -4,6 +4,7 @@ use search::rule::Rule;
 use search::search::{Answer, Search};
 use spaces::space::Space;
 use stores::store::Store;
+use trial::told;
 
 // The longest plan of the cases.
 const MOST: usize = 8;
@@ -15,9 +16,9 @@ pub fn stops_after<S: Store>(store: &mut S, depth: usize, number: u8) -> bool {
             return false;
         }
     }
-    match store.mark() {
-        Ok(()) => false,
-        Err(fault) => fault.number() == number,
+    match told(store.mark()) {
+        Some(refusal) => refusal.number == number,
+        None => false,
     }
 }
 

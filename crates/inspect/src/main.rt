@@ -4,35 +4,40 @@ use faults::Fault;
 use model::model::Model;
 use model::model::calls::Constraint;
 use model::values::Term;
-use std::io;
 use std::io::Read;
+use std::{fmt, io};
 
 // The terms as a sum, `1*x0 + -1*x1`.
-fn show_terms(rt: &HostRuntime, terms: &[Term]) -> io::Result<()> {
-    for (i, term) in terms.iter().enumerate() {
-        if i > 0 {
-            print!(rt; " + ")?;
+#[derive(Clone, Copy)]
+struct Sum<'a>(&'a [Term]);
+
+impl fmt::Display for Sum<'_> {
+    fn fmt<W: fmt::Write>(&self, f: &mut fmt::Formatter<W>) -> fmt::Result {
+        for (i, term) in self.0.iter().enumerate() {
+            if i > 0 {
+                write!(f, " + ")?;
+            }
+            write!(f, "{}*x{}", term.coefficient, term.variable)?;
         }
-        let coefficient = term.coefficient;
-        let variable = term.variable;
-        print!(rt; "{coefficient}*x{variable}")?;
+        Ok(())
     }
-    Ok(())
 }
 
-fn show_constraint(rt: &HostRuntime, constraint: Constraint<'_>) -> io::Result<()> {
-    match constraint {
-        Constraint::AtMost { bound, terms } => {
-            print!(rt; "sum ")?;
-            show_terms(rt, terms)?;
-            println!(rt; " <= {bound}")
-        }
-        Constraint::Different { variables } => {
-            print!(rt; "different")?;
-            for x in variables {
-                print!(rt; " x{x}")?;
+// A constraint in words, as `tools/encode` reads them.
+#[derive(Clone, Copy)]
+struct Words<'a>(Constraint<'a>);
+
+impl fmt::Display for Words<'_> {
+    fn fmt<W: fmt::Write>(&self, f: &mut fmt::Formatter<W>) -> fmt::Result {
+        match self.0 {
+            Constraint::AtMost { bound, terms } => write!(f, "sum {} <= {bound}", Sum(terms)),
+            Constraint::Different { variables } => {
+                write!(f, "different")?;
+                for x in variables {
+                    write!(f, " x{x}")?;
+                }
+                Ok(())
             }
-            println!(rt; "")
         }
     }
 }
@@ -42,14 +47,12 @@ fn show(rt: &HostRuntime, model: &Model) -> io::Result<()> {
     println!(rt; "variables {n}")?;
     for x in 0..n {
         if let Some(window) = model.window(x) {
-            let low = window.low;
-            let high = window.high;
-            println!(rt; "x{x} in {low}..{high}")?;
+            println!(rt; "x{x} in {}..{}", window.low, window.high)?;
         }
     }
     for i in 0..model.records() {
         if let Some(constraint) = model.constraint(i) {
-            show_constraint(rt, constraint)?;
+            println!(rt; "{}", Words(constraint))?;
         }
     }
     Ok(())
@@ -62,11 +65,6 @@ fn main(rt: HostRuntime) -> io::Result<()> {
     let mut model = Model::fresh();
     match model.read(bytes.as_slice()) {
         Ok(()) => show(&rt, &model),
-        Err(fault) => {
-            let number = fault.number();
-            let place = fault.place();
-            let reason = fault.reason();
-            println!(rt; "refused {number} {place}: {reason}")
-        }
+        Err(fault) => println!(rt; "refused {} {}: {fault}", fault.number(), fault.place()),
     }
 }

@@ -193,12 +193,7 @@ fn main(rt: HostRuntime) -> io::Result<()> {
     rt.stdin().read_to_end(&mut bytes)?;
     let mut model = Model::fresh();
     if let Err(fault) = model.read(bytes.as_slice()) {
-        return println!(rt;
-            "refused {} {}: {}",
-            fault.number(),
-            fault.place(),
-            fault.reason()
-        );
+        return println!(rt; "refused {} {}: {fault}", fault.number(), fault.place());
     }
     match wish.branching {
         Branching::First => solve(&rt, &wish, &model, First),
