@@ -26,37 +26,50 @@ const ENTRY: Entry = Entry {
 };
 
 // One case, run on memory of the heap.
-struct Trial<'a, A> {
-    rt: &'a A,
+#[derive(Clone, Copy)]
+struct Trial {
     heap: Global,
     case: Case,
 }
 
-impl<A: Abort> Trial<'_, A> {
-    fn trail(&self, cells: usize, entries: usize, depth: usize, number: u8) -> Result<(), Fail> {
+impl Trial {
+    fn trail(
+        &self,
+        rt: &impl Abort,
+        cells: usize,
+        entries: usize,
+        depth: usize,
+        number: u8,
+    ) -> Result<(), Fail> {
         let case = self.case;
         let mut lent = vec![in self.heap; CELL; cells]?;
         let mut saved = vec![in self.heap; ENTRY; entries]?;
         let mut store = Trail::open(lent.as_mut_slice(), saved.as_mut_slice(), cells);
-        assert!(self.rt; store.depth() == depth, "{case:?}: depth");
-        assert!(self.rt; stops_after(&mut store, depth, number), "{case:?}: marks");
+        assert!(rt; store.depth() == depth, "{case:?}: depth");
+        assert!(rt; stops_after(&mut store, depth, number), "{case:?}: marks");
         Ok(())
     }
 
-    fn copies(&self, cells: usize, words: usize, depth: usize) -> Result<(), Fail> {
+    fn copies(
+        &self,
+        rt: &impl Abort,
+        cells: usize,
+        words: usize,
+        depth: usize,
+    ) -> Result<(), Fail> {
         let case = self.case;
         let mut lent = vec![in self.heap; 7u64; words]?;
         let store = Copying::open(lent.as_mut_slice(), cells);
-        assert!(self.rt; store.depth() == depth, "{case:?}: depth");
+        assert!(rt; store.depth() == depth, "{case:?}: depth");
         Ok(())
     }
 
     // The bytes are refused.
-    fn refused(&self, bytes: &[u8], number: u8, place: usize) -> Result<(), Fail> {
+    fn refused(&self, rt: &impl Abort, bytes: &[u8], number: u8, place: usize) -> Result<(), Fail> {
         let case = self.case;
         let mut model = Model::fresh();
         let refusal = told(model.read(bytes));
-        assert!(self.rt;
+        assert!(rt;
             refusal == Some(Refusal { number, place }),
             "{case:?}: {refusal:?}"
         );
@@ -65,7 +78,7 @@ impl<A: Abort> Trial<'_, A> {
 
     // A trail that marks every node, a trail that recomputes from one mark, and copies: each twice, to see that a session leaves
     // the space as it was.
-    fn on_boards<C: Claims>(&self, bytes: &[u8], claim: &C) -> Result<(), Fail> {
+    fn on_boards<C: Claims>(&self, rt: &impl Abort, bytes: &[u8], claim: &C) -> Result<(), Fail> {
         let case = self.case;
         let heap = self.heap;
         let mut model = Model::fresh();
@@ -87,42 +100,42 @@ impl<A: Abort> Trial<'_, A> {
         let mut small = Search::open(small, First);
         let mut station = Search::open(station, First);
         for _ in 0..2u8 {
-            assert!(self.rt; in_session(claim, &mut large), "{case:?}: large");
-            assert!(self.rt; in_session(claim, &mut small), "{case:?}: small");
-            assert!(self.rt; in_session(claim, &mut station), "{case:?}: station");
+            assert!(rt; in_session(claim, &mut large), "{case:?}: large");
+            assert!(rt; in_session(claim, &mut small), "{case:?}: small");
+            assert!(rt; in_session(claim, &mut station), "{case:?}: station");
         }
         Ok(())
     }
 
-    fn runs(&self) -> Result<(), Fail> {
+    fn runs(&self, rt: &impl Abort) -> Result<(), Fail> {
         match claim_of(self.case) {
             Claim::Trail {
                 cells,
                 entries,
                 depth,
                 number,
-            } => self.trail(cells, entries, depth, number),
+            } => self.trail(rt, cells, entries, depth, number),
             Claim::Copies {
                 cells,
                 words,
                 depth,
-            } => self.copies(cells, words, depth),
+            } => self.copies(rt, cells, words, depth),
             Claim::Refused {
                 bytes,
                 number,
                 place,
-            } => self.refused(bytes, number, place),
+            } => self.refused(rt, bytes, number, place),
             Claim::Tree {
                 bytes,
                 root,
                 plans,
                 nodes,
-            } => self.on_boards(bytes, &Grown { root, plans, nodes }),
+            } => self.on_boards(rt, bytes, &Grown { root, plans, nodes }),
             Claim::Calls {
                 bytes,
                 budget,
                 answers,
-            } => self.on_boards(bytes, &Called { budget, answers }),
+            } => self.on_boards(rt, bytes, &Called { budget, answers }),
         }
     }
 }
@@ -131,11 +144,10 @@ impl<A: Abort> Trial<'_, A> {
 fn every_case_runs(rt: HostRuntime) -> Result<(), Fail> {
     for case in all_cases() {
         let trial = Trial {
-            rt: &rt,
             heap: rt.alloc(),
             case,
         };
-        trial.runs()?;
+        trial.runs(&rt)?;
     }
     Ok(())
 }
