@@ -1,7 +1,7 @@
 -- A lawful kind in front of lawful kinds. Assumes nothing.
 use Rattle.std.specs.Prelude.{◌≡◌, ℕ, true, false, Some, None, Option, ◌==◌, ◌≢◌, refl, nat_eq}
 use Rattle.std.specs.Option.{option_eq}
-use Rattle.std.proofs.Common.{sym, ap, ◌∙◌, subst, ⊎_elim, arith}
+use Rattle.std.proofs.Common.{sym, ap, ◌∙◌, subst, ⊎_elim}
 use Rattle.std.proofs.lemmas.Bool.{both_ways, cond-true, cond-false, eq-eqb, ne_eqb, cases_eq}
 use Rattle.model.specs.Values.{Record}
 use Rattle.kinds.specs.Demands.{Demand, Demands, Stable, Meets, kind_of_record, demand_of, with_kind, no_demands, demanded}

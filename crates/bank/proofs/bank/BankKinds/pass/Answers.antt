@@ -1,7 +1,6 @@
 use Rattle.std.proofs.Common.{length, sym, ◌∙◌, subst}
 use Rattle.model.specs.Meaning.{windows, records}
 use Rattle.std.specs.List.{slice_get}
-use Rattle.std.specs.Option.{option_eq}
 use Rattle.kinds.specs.Demands.{Demand}
 use Rattle.kinds.specs.Passes.{Passes}
 use Rattle.bank.specs.Banks.{by_kind, by_others}
