@@ -1,7 +1,7 @@
 // Small models by chance, with their bytes.
 use model::values::{Term, Window};
 use std::alloc::{AllocError, Global};
-use trial::mixed;
+use trial::{Writer, mixed};
 
 #[derive(Drop)]
 pub enum Rule {
@@ -84,58 +84,15 @@ pub fn sample_by(heap: Global, chance: &mut Chance) -> Result<Sample, AllocError
     Ok(Sample { windows, rules })
 }
 
-fn push_word(bytes: &mut Vec<u8>, word: u16) -> Result<(), AllocError> {
-    for byte in word.to_le_bytes() {
-        bytes.push(byte)?;
-    }
-    Ok(())
-}
-
-fn push_head(bytes: &mut Vec<u8>, length: usize, kind: u16) -> Result<(), AllocError> {
-    push_word(bytes, (length % 65536) as u16)?;
-    push_word(bytes, kind)
-}
-
 // The model bytes of the sample.
-pub fn bytes_of(heap: Global, windows: &[Window], rules: &[Rule]) -> Result<Vec<u8>, AllocError> {
-    let mut bytes = Vec::new(heap);
-    push_head(
-        &mut bytes,
-        windows.len().saturating_mul(2).saturating_add(1),
-        1,
-    )?;
-    bytes.push((windows.len() % 256) as u8)?;
-    for window in windows {
-        bytes.push(window.low)?;
-        bytes.push(window.high)?;
-    }
+pub fn bytes_of(heap: Global, windows: &[Window], rules: &[Rule]) -> Result<Writer, AllocError> {
+    let mut writer = Writer::new(heap);
+    writer.windows(windows)?;
     for rule in rules {
         match rule {
-            Rule::AtMost { bound, terms } => {
-                push_head(
-                    &mut bytes,
-                    terms.len().saturating_mul(3).saturating_add(5),
-                    2,
-                )?;
-                bytes.push((terms.len() % 256) as u8)?;
-                for byte in bound.to_le_bytes() {
-                    bytes.push(byte)?;
-                }
-                for term in terms.iter() {
-                    bytes.push(term.variable)?;
-                    for byte in term.coefficient.to_le_bytes() {
-                        bytes.push(byte)?;
-                    }
-                }
-            }
-            Rule::Different { variables } => {
-                push_head(&mut bytes, variables.len().saturating_add(1), 3)?;
-                bytes.push((variables.len() % 256) as u8)?;
-                for x in variables.iter() {
-                    bytes.push(*x)?;
-                }
-            }
+            Rule::AtMost { bound, terms } => writer.at_most(*bound, terms)?,
+            Rule::Different { variables } => writer.different(variables)?,
         }
     }
-    Ok(bytes)
+    Ok(writer)
 }

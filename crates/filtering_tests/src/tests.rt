@@ -67,9 +67,9 @@ fn agrees_after_decisions(
     rules: &[Rule],
     chance: &mut Chance,
 ) -> Result<(), Fail> {
-    let bytes = bytes_of(heap, windows, rules)?;
+    let writer = bytes_of(heap, windows, rules)?;
     let mut model = Model::fresh();
-    model.read(&bytes)?;
+    model.read(writer.bytes())?;
     let variables = (windows.len() % 65) as u8;
     let mut words = [9u64; 256];
     let mut table = WordTable::open(&model, Copying::open(&mut words, windows.len()));

@@ -1,5 +1,5 @@
 use std::alloc::{AllocError, Global};
-use trial::mixed;
+use trial::AnyCall;
 
 // A call that may alter a store.
 #[derive(Clone, Copy, Drop)]
@@ -9,33 +9,20 @@ pub enum Call {
     Restore,
 }
 
-// Any call on a row of so many cells; some name the first cell past it, and some a cell far away.
-fn any_call(seed: u64, size: usize) -> Call {
-    let cell = match seed % 61 {
-        0 => usize::MAX,
-        _ => ((seed >> 8) % (size as u64).saturating_add(1)) as usize,
-    };
-    match seed % 8 {
-        0 | 1 => Call::Mark,
-        2 => Call::Restore,
-        _ => Call::Write(cell, seed >> 20),
+// Any call on a row of so many cells; some name the first cell past it, and some a cell far away. Far more marks than restores are in a script,
+// so it often stands at its depth.
+impl AnyCall for Call {
+    fn any_call(seed: u64, size: usize) -> Call {
+        let cell = match seed % 61 {
+            0 => usize::MAX,
+            _ => ((seed >> 8) % (size as u64).saturating_add(1)) as usize,
+        };
+        match seed % 8 {
+            0 | 1 => Call::Mark,
+            2 => Call::Restore,
+            _ => Call::Write(cell, seed >> 20),
+        }
     }
-}
-
-// A long script of any calls; far more marks than restores are in it, so it often stands at its depth.
-pub fn any_calls(
-    heap: Global,
-    seed: u64,
-    size: usize,
-    steps: usize,
-) -> Result<Vec<Call>, AllocError> {
-    let mut script = Vec::new(heap);
-    let mut state = seed;
-    for _ in 0..steps {
-        state = mixed(state);
-        script.push(any_call(state, size))?;
-    }
-    Ok(script)
 }
 
 // Marks up to the depth and past it, with the same cells written twice at each level, and then restores down past the last.

@@ -1,6 +1,6 @@
 use crate::judge::marks_end;
 use crate::lent::{Case, Layers, Memory};
-use crate::script::{any_calls, ladder};
+use crate::script::ladder;
 use std::alloc::{AllocError, Global};
 use std::test::Fail;
 use stores::ceiling::Ceiling;
@@ -8,7 +8,7 @@ use stores::copying::Copying;
 use stores::store::Store;
 use stores::tally::Tally;
 use stores::trail::{Cell, Entry, Trail};
-use trial::Refusal;
+use trial::{Refusal, any_calls};
 
 const LAYERS: [Layers; 6] = [
     Layers::Bare,

@@ -1,5 +1,5 @@
 use std::alloc::{AllocError, Global};
-use trial::mixed;
+use trial::AnyCall;
 
 // A call that may alter a table.
 #[derive(Clone, Copy, Drop)]
@@ -10,39 +10,26 @@ pub enum Call {
     Restore,
 }
 
-// Any call on so many variables; some name the first variable past them or one far away, and some the first value that is none.
-fn any_call(seed: u64, variables: usize) -> Call {
-    let x = match seed % 61 {
-        0 => usize::MAX,
-        _ => ((seed >> 8) % (variables as u64).saturating_add(1)) as usize,
-    };
-    let v = match seed % 53 {
-        0 => 255,
-        1 => 64,
-        _ => ((seed >> 40) % 64) as u8,
-    };
-    match seed % 16 {
-        0 | 1 => Call::Mark,
-        2 => Call::Restore,
-        3 => Call::Keep(x, v),
-        _ => Call::Drop(x, v),
+// Any call on so many variables; some name the first variable past them or one far away, and some the first value that is none. More marks
+// than restores are in a script, so it often stands at its depth.
+impl AnyCall for Call {
+    fn any_call(seed: u64, size: usize) -> Call {
+        let x = match seed % 61 {
+            0 => usize::MAX,
+            _ => ((seed >> 8) % (size as u64).saturating_add(1)) as usize,
+        };
+        let v = match seed % 53 {
+            0 => 255,
+            1 => 64,
+            _ => ((seed >> 40) % 64) as u8,
+        };
+        match seed % 16 {
+            0 | 1 => Call::Mark,
+            2 => Call::Restore,
+            3 => Call::Keep(x, v),
+            _ => Call::Drop(x, v),
+        }
     }
-}
-
-// A long script of any calls; more marks than restores are in it, so it often stands at its depth.
-pub fn any_calls(
-    heap: Global,
-    seed: u64,
-    variables: usize,
-    steps: usize,
-) -> Result<Vec<Call>, AllocError> {
-    let mut script = Vec::new(heap);
-    let mut state = seed;
-    for _ in 0..steps {
-        state = mixed(state);
-        script.push(any_call(state, variables))?;
-    }
-    Ok(script)
 }
 
 // Marks up to the depth and past it. Between two marks both ends of the values are dropped twice from the first domain, and of

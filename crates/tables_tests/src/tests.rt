@@ -1,26 +1,11 @@
 use crate::opened::{Case, Over, Run};
-use crate::script::{any_calls, ladder};
+use crate::script::ladder;
 use model::model::Model;
 use model::values::Window;
-use std::alloc::{AllocError, Global};
+use std::alloc::Global;
 use std::process::Abort;
 use std::test::Fail;
-
-// Model bytes with a window for each variable and no constraint; there are at most 64.
-fn bytes_of(heap: Global, windows: &[Window]) -> Result<Vec<u8>, AllocError> {
-    let variables = (windows.len() % 65) as u8;
-    let mut bytes = Vec::new(heap);
-    bytes.push(1 + 2 * variables)?;
-    bytes.push(0)?;
-    bytes.push(1)?;
-    bytes.push(0)?;
-    bytes.push(variables)?;
-    for window in windows {
-        bytes.push(window.low)?;
-        bytes.push(window.high)?;
-    }
-    Ok(bytes)
-}
+use trial::{Writer, any_calls};
 
 fn window(low: u8, high: u8) -> Window {
     Window { low, high }
@@ -32,9 +17,10 @@ fn case(cells: usize, depth: usize, most: usize) -> Case {
 
 // Runs two scripts over each kind of store.
 fn agrees(rt: &impl Abort, heap: Global, windows: &[Window], case: Case) -> Result<(), Fail> {
-    let bytes = bytes_of(heap, windows)?;
+    let mut writer = Writer::new(heap);
+    writer.windows(windows)?;
     let mut model = Model::fresh();
-    model.read(&bytes)?;
+    model.read(writer.bytes())?;
     let variables = windows.len().min(case.cells);
     let calls = any_calls(heap, 88172645463325252, variables, 600)?;
     let steps = ladder(heap, variables, case.depth)?;
