@@ -44,9 +44,10 @@ impl<'m, T: DomainTable, K: Kinds> Marking<'m, T, K> {
         ensures means { meaning K.Kinds.demands T.DomainTable.means result ≡ opened (problem K.Kinds.demands (model-means model.now) (T.DomainTable.means table).width) (T.DomainTable.means table) (depth_over (T.DomainTable.means table).depth) }
         ensures sound { T.DomainTable.sound table → IsSound T.DomainTable.sound K.Kinds.demands T.DomainTable.means result }
     {
+        let choices = ArrayVec::new();
         Marking {
             base: Base::open(table, kinds, model),
-            choices: ArrayVec::new(),
+            choices,
         }
     }
 

@@ -34,10 +34,11 @@ impl<'m, T: DomainTable, K: Kinds> Recomputing<'m, T, K> {
         ensures means { meaning K.Kinds.demands T.DomainTable.means result ≡ opened (problem K.Kinds.demands (model-means model.now) (T.DomainTable.means table).width) (T.DomainTable.means table) (depth_over (T.DomainTable.means table).depth) }
         ensures sound { T.DomainTable.sound table → IsSound T.DomainTable.sound K.Kinds.demands T.DomainTable.means result }
     {
+        let path = ArrayVec::new();
         Recomputing {
             base: Base::open(table, kinds, model),
             takes: 0,
-            path: ArrayVec::new(),
+            path,
         }
     }
 

@@ -13,7 +13,7 @@ returns-clause-sound g c = λ sd.
       part = subst g.T.DomainTable.sound (sym c.open.ensures.parts.0) sd;
       lawful = problem-lawful g.K.Kinds.demands m (g.T.DomainTable.means b.table).width g.met.K.Kinds.lawful b.model.now.valid;
       few = few_variables m b.model.now.valid;
-      counted = sym (ap (λ q. length (taken (reverse q))) c.new.ensures);
+      counted = sym (ap (λ q. length (taken (reverse q))) c.new-path.ensures);
       most = omega arith;
-      runs = subst (λ o. Runs g.K.Kinds.demands m (g.T.DomainTable.means b.table) o (reverse c.new.result.items)) (sym c.open.ensures.idle) (ap reverse c.new.ensures);
+      runs = subst (λ o. Runs g.K.Kinds.demands m (g.T.DomainTable.means b.table) o (reverse c.new-path.result.items)) (sym c.open.ensures.idle) (ap reverse c.new-path.ensures);
     }
