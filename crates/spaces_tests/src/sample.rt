@@ -1,6 +1,7 @@
 // Models by their windows and rules, and their bytes.
+use model::values::{Term, Window};
 use std::alloc::{AllocError, Global};
-use trial::mixed;
+use trial::{Writer, mixed};
 
 // The variables of the set all differ; or the sum of coefficients times variables, of the first eight, is at most the bound.
 #[derive(Clone, Copy, Drop)]
@@ -50,71 +51,58 @@ pub fn sample_by(seed: u64) -> Sample {
     }
 }
 
-fn push_head(bytes: &mut Vec<u8>, length: u8, kind: u8) -> Result<(), AllocError> {
-    bytes.push(length)?;
-    bytes.push(0)?;
-    bytes.push(kind)?;
-    bytes.push(0)?;
-    Ok(())
-}
-
 pub fn listed(set: u64, x: u8) -> bool {
     (set >> (x % 64)) & 1 == 1
 }
 
-fn push_rule(bytes: &mut Vec<u8>, variables: u8, rule: Rule) -> Result<(), AllocError> {
+// A rule that lists too few variables is left out.
+fn write_rule(
+    heap: Global,
+    writer: &mut Writer,
+    variables: u8,
+    rule: Rule,
+) -> Result<(), AllocError> {
     match rule {
         Rule::Different(set) => {
-            let count = (0..variables).filter(|x| listed(set, *x)).count() as u8;
-            if count < 2 {
-                return Ok(());
-            }
-            push_head(bytes, count.saturating_add(1), 3)?;
-            bytes.push(count)?;
+            let mut list = Vec::new(heap);
             for x in 0..variables {
                 if listed(set, x) {
-                    bytes.push(x)?;
+                    list.push(x)?;
                 }
             }
-        }
-        Rule::AtMost(bound, coefficients) => {
-            let named = coefficients.iter().take(variables as usize);
-            let count = named.filter(|factor| **factor != 0).count() as u8;
-            if count == 0 {
+            if list.len() < 2 {
                 return Ok(());
             }
-            push_head(bytes, count.saturating_mul(3).saturating_add(5), 2)?;
-            bytes.push(count)?;
-            for byte in bound.to_le_bytes() {
-                bytes.push(byte)?;
-            }
+            writer.different(&list)
+        }
+        Rule::AtMost(bound, coefficients) => {
+            let mut terms = Vec::new(heap);
             for (x, factor) in coefficients.iter().enumerate().take(variables as usize) {
                 if *factor != 0 {
-                    bytes.push(x as u8)?;
-                    for byte in i16::from(*factor).to_le_bytes() {
-                        bytes.push(byte)?;
-                    }
+                    terms.push(Term {
+                        variable: x as u8,
+                        coefficient: i16::from(*factor),
+                    })?;
                 }
             }
+            if terms.is_empty() {
+                return Ok(());
+            }
+            writer.at_most(bound, &terms)
         }
     }
-    Ok(())
 }
 
-pub fn bytes_of(heap: Global, sample: &Sample) -> Result<Vec<u8>, AllocError> {
-    let mut bytes = Vec::new(heap);
-    push_head(
-        &mut bytes,
-        sample.variables.saturating_mul(2).saturating_add(1),
-        1,
-    )?;
-    bytes.push(sample.variables)?;
-    for _ in 0..sample.variables {
-        bytes.push(0)?;
-        bytes.push(sample.high)?;
-    }
+pub fn bytes_of(heap: Global, sample: &Sample) -> Result<Writer, AllocError> {
+    let window = Window {
+        low: 0,
+        high: sample.high,
+    };
+    let windows = vec![in heap; window; sample.variables as usize]?;
+    let mut writer = Writer::new(heap);
+    writer.windows(&windows)?;
     for rule in sample.rules {
-        push_rule(&mut bytes, sample.variables, rule)?;
+        write_rule(heap, &mut writer, sample.variables, rule)?;
     }
-    Ok(bytes)
+    Ok(writer)
 }

@@ -7,9 +7,9 @@ use std::test::Fail;
 use trial::mixed;
 
 fn agrees(rt: &impl Abort, heap: Global, sample: Sample, case: Case) -> Result<(), Fail> {
-    let bytes = bytes_of(heap, &sample)?;
+    let writer = bytes_of(heap, &sample)?;
     let mut model = Model::fresh();
-    model.read(&bytes)?;
+    model.read(writer.bytes())?;
     let given = Given {
         heap,
         model: &model,
