@@ -4,7 +4,6 @@ use Rattle.std.proofs.lemmas.Bool.{both_ways, cases_eq}
 use Rattle.bits.specs.Bit.{Least, Greatest}
 use Rattle.tree.specs.Tables.{Table}
 use Rattle.tree.specs.Filter.{Node, failed, table}
-use Rattle.tree.specs.Search.{Rule}
 use Rattle.tree.specs.Domains.{size, least, greatest}
 use Rattle.tree.specs.Find.{is_full}
 use Rattle.tree.specs.Rules.{paired}

@@ -1,4 +1,4 @@
-use Rattle.search.proofs.Picking.{chose_none, chose, never_none, never_fault}
+use Rattle.search.proofs.Picking.{chose, never_none, never_fault}
 use Rattle.search.proofs.rule.decided.Goals as goal
 
 pub returns-in-Ok-Some : goal.returns-in-Ok-Some

@@ -1,4 +1,4 @@
-use Rattle.std.proofs.Common.{◌≡◌, ℕ, Some, None, Ok, Err, Option, Result, refl, arith}
+use Rattle.std.proofs.Common.{◌≡◌, ℕ, Some, None, Ok, Err, Option, Result, arith}
 use Rattle.spaces.specs.declared.space.SpaceFault.{SpaceFault}
 use Rattle.search.proofs.Copying.{copied_none, copied_more, copied_all, never_else}
 use Rattle.search.proofs.search.Search.copy.Goals as goal

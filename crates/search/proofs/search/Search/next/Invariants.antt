@@ -1,4 +1,4 @@
-use Rattle.std.proofs.Common.{◌≡◌, ◌-◌, ◌≤◌, true}
+use Rattle.std.proofs.Common.{◌≡◌, true}
 use Rattle.search.specs.Sessions.{has_session, Sound, view}
 use Rattle.search.proofs.Scans.{Mid}
 use Rattle.search.proofs.search.Search.next.Given as goal
