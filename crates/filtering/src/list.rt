@@ -1,5 +1,5 @@
 ghost use Rattle.std.specs.Prelude.{◌≡◌, ◌<◌, ◌≤◌};
-ghost use Rattle.filtering.specs.Waits.{queue, Idle, behind, Pops};
+ghost use Rattle.filtering.specs.Waits.{queue, Orderly, Idle, behind, Pops};
 
 use bits::Set;
 use std::marker::Model;
@@ -50,6 +50,7 @@ impl WaitingList {
 
     // The record waits behind all others, unless it waits already or is none that a model can have.
     pub fn push(&mut self, item: usize)
+        ensures order { Orderly self.new }
         ensures waits { item < 64 → queue self.new ≡ behind (queue self.old) item }
         ensures past { 64 ≤ item → self.new ≡ self.old }
     {
@@ -65,7 +66,8 @@ impl WaitingList {
 
     // The record that has waited longest, which waits no more; none where no record waits.
     pub fn pop(&mut self) -> Option<usize>
-        ensures { Pops (queue self.old) result (queue self.new) }
+        ensures order { Orderly self.new }
+        ensures pops { Pops (queue self.old) result (queue self.new) }
     {
         if self.len == 0 {
             return None;

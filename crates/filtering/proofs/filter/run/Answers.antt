@@ -40,7 +40,7 @@ returns-in_default g c = λ idle sd.
       λ vs b.
           let mid0 = at_first A laws (records m) s c.args.start c.first.result.word c.args.list.now c.wake.new.list refl vs refl (g.T.DomainTable.bounded c.args.table.now sd) full b c.first.ensures.begins c.first.ensures.below idle c.wake.ensures in
           let mid = inv.0 vs mid0 in
-          (mid.narrowed, done A laws s t c.loop-round.list c.loop-round._round mid (c.in_default.ensures).0),
+          (mid.narrowed, done A laws s t c.loop-round.list c.loop-round._round mid c.in_default.ensures.pops.0),
       inv.1,
     )
 
@@ -66,7 +66,7 @@ returns-in-Failed g c = λ idle sd.
       λ vs b.
           let mid0 = at_first A laws (records m) s c.args.start c.first.result.word c.args.list.now c.wake.new.list refl vs refl (g.T.DomainTable.bounded c.args.table.now sd) full b c.first.ensures.begins c.first.ensures.below idle c.wake.ensures in
           let mid = inv.0 vs mid0 in
-          let pops = c.in-Some.ensures in
+          let pops = c.in-Some.ensures.pops in
           let p = same_width D (length (windows m)) (slice_get (records m) item) (together A) s t u r mid.narrowed did.0 in
           let narrowed = narrowed_on A laws s t c.loop-round.list c.pop.new.self c.loop-round._round item mid pops u r p in
           let e = p.empty refl in
@@ -91,7 +91,7 @@ loop-round-preserved g c = λ sd.
     let bounds = g.T.DomainTable.bounded c.loop-round.table inv.1 in (
       λ vs mid0.
           let mid = inv.0 vs mid0 in
-          let pops = c.in-Some.ensures in
+          let pops = c.in-Some.ensures.pops in
           let p = same_width D (length (windows m)) (slice_get (records m) item) (together A) s t u r mid.narrowed did.0 in
           let l = c.loop-round.list in
           let k = c.pop.new.self in

@@ -22,5 +22,8 @@ invariant_of-self c =
       below = λ i h. o.below i (ap (among i) e ∙ or_right (eqb i item) (among i r) h);
     }
 
-pub returns : goal.returns
-returns c = let l = c.self.inside in rw (← c.self.view_is) (around-first l.ring l.head l.len c.if-self-eq0.false)
+pub returns-clause-pops : goal.returns-clause-pops
+returns-clause-pops c = let l = c.self.inside in rw (← c.self.view_is) (around-first l.ring l.head l.len c.if-self-eq0.false)
+
+pub returns-clause-order : goal.returns-clause-order
+returns-clause-order c = invariant_of-self c

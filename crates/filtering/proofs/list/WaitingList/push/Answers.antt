@@ -45,3 +45,6 @@ returns-clause-waits c = λ lt.
     let out : among item q ≡ false = sym (o.set item) ∙ sym c.has.ensures ∙ c.if-has.false in
     let long : length l.ring ≡ 64 = search rules in
     rw (← c.self.view_is) (put l.ring l.head l.len item long (room _ item o lt out) ∙ sym (cond-false (among item q) q (q ++ (item ∷ [])) out))
+
+pub returns-clause-order : goal.returns-clause-order
+returns-clause-order c = invariant_of-self c
