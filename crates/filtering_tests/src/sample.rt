@@ -15,6 +15,21 @@ pub struct Sample {
     pub rules: Vec<Rule>,
 }
 
+impl Sample {
+    // The model bytes of the sample.
+    pub fn bytes(&self, heap: Global) -> Result<Writer, AllocError> {
+        let mut writer = Writer::new(heap);
+        writer.windows(&self.windows)?;
+        for rule in self.rules.iter() {
+            match rule {
+                Rule::AtMost { bound, terms } => writer.at_most(*bound, terms)?,
+                Rule::Different { variables } => writer.different(variables)?,
+            }
+        }
+        Ok(writer)
+    }
+}
+
 // Numbers by chance.
 #[derive(Clone, Copy, Drop)]
 pub struct Chance {
@@ -82,17 +97,4 @@ pub fn sample_by(heap: Global, chance: &mut Chance) -> Result<Sample, AllocError
         rules.push(rule_by(heap, chance, variables)?)?;
     }
     Ok(Sample { windows, rules })
-}
-
-// The model bytes of the sample.
-pub fn bytes_of(heap: Global, windows: &[Window], rules: &[Rule]) -> Result<Writer, AllocError> {
-    let mut writer = Writer::new(heap);
-    writer.windows(windows)?;
-    for rule in rules {
-        match rule {
-            Rule::AtMost { bound, terms } => writer.at_most(*bound, terms)?,
-            Rule::Different { variables } => writer.different(variables)?,
-        }
-    }
-    Ok(writer)
 }

@@ -1,5 +1,5 @@
 use crate::judge::{Pair, fixpoint};
-use crate::sample::{Chance, Rule, bytes_of, sample_by};
+use crate::sample::{Chance, Rule, Sample, sample_by};
 use bank::standard::standard;
 use filtering::filter::{Start, filter};
 use filtering::list::WaitingList;
@@ -63,11 +63,12 @@ fn agrees<T: DomainTable>(
 fn agrees_after_decisions(
     rt: &impl Abort,
     heap: Global,
-    windows: &[Window],
-    rules: &[Rule],
+    sample: &Sample,
     chance: &mut Chance,
 ) -> Result<(), Fail> {
-    let writer = bytes_of(heap, windows, rules)?;
+    let writer = sample.bytes(heap)?;
+    let windows = sample.windows.as_slice();
+    let rules = sample.rules.as_slice();
     let mut model = Model::fresh();
     model.read(writer.bytes())?;
     let variables = (windows.len() % 65) as u8;
@@ -111,7 +112,7 @@ fn small_models_by_chance(rt: HostRuntime) -> Result<(), Fail> {
     };
     for _ in 0..4000u32 {
         let sample = sample_by(heap, &mut chance)?;
-        agrees_after_decisions(&rt, heap, &sample.windows, &sample.rules, &mut chance)?;
+        agrees_after_decisions(&rt, heap, &sample, &mut chance)?;
     }
     Ok(())
 }
@@ -133,8 +134,11 @@ fn term(variable: u8, coefficient: i16) -> Term {
 fn one_rule(rt: &impl Abort, heap: Global, windows: &[Window], rule: Rule) -> Result<(), Fail> {
     let mut rules = Vec::new(heap);
     rules.push(rule)?;
-    let mut chance = Chance { state: 1 };
-    agrees_after_decisions(rt, heap, windows, &rules, &mut chance)
+    let sample = Sample {
+        windows: windows.to_vec(heap)?,
+        rules,
+    };
+    agrees_after_decisions(rt, heap, &sample, &mut Chance { state: 1 })
 }
 
 // Bounds and coefficients at the ends of their types, over 64 terms.
