@@ -1,4 +1,4 @@
-use Rattle.std.proofs.Common.{◌+◌, ℤ, sym, refl, subst, w32, to_z, of_z}
+use Rattle.std.proofs.Common.{◌+◌, ℤ, sym, refl, subst, w32}
 use Rattle.std.proofs.lemmas.Int.{to_z-of_z}
 use Rattle.model.specs.Values.{at_most}
 use Rattle.kinds.specs.declared.shrunk.Shrunk.TheVariants.{Live, Failed}
@@ -6,19 +6,9 @@ use Rattle.kinds.specs.Demands.{demand_of}
 use Rattle.atmost.specs.Linear.{term, stable, meets}
 use Rattle.atmost.specs.Laws.{term-listed}
 use Rattle.atmost.proofs.Parts.{rest_fits, room_fits, room_is}
-use Rattle.atmost.proofs.Steps.{Main, main_none, main_trim, main_stable, room_of, trimmable}
-use Rattle.kinds.proofs.Passing.{not_both, passed_still, passed_empty, passed_full}
+use Rattle.atmost.proofs.Steps.{Main, main_trim, main_stable, room_of, trimmable}
+use Rattle.kinds.proofs.Passing.{not_both, passed_empty, passed_full}
 use Rattle.atmost.proofs.narrow.narrow.Goals as goal
-
-pub returns-in_default : goal.returns-in_default
-returns-in_default g c = λ sd.
-    let s = g.T.DomainTable.means c.args.table.now in
-    let A = demand_of stable meets s.width (at_most c.args.bound c.args.terms.now) in
-    let p = c.in_default.ensures.value sd in
-    (λ n small. passed_still n A s (Failed c.empty.result) p.0 c.empty.ensures refl p.1 p.2, sd)
-
-pub loop-term-init : goal.loop-term-init
-loop-term-init g c = λ sd. (λ n small live. main_none n c.args.terms.now (to_z w32 (of_z w32 c.args.bound)) (g.T.DomainTable.means c.args.table.now) c.empty-set.result c.empty-set.ensures, sd)
 
 pub returns-in_default-low : goal.returns-in_default-low
 returns-in_default-low g c = λ sd.

@@ -1,10 +1,9 @@
-use Rattle.std.proofs.Common.{ℕ, ◌+◌, ◌≤◌, List, length, ℤ, ◌+ℤ◌, sym, refl, ap, ◌∙◌, subst, ⊎_elim, arith, w64, SFits, to_z, of_z}
+use Rattle.std.proofs.Common.{ℕ, ◌+◌, ◌≤◌, length, ℤ, ◌+ℤ◌, sym, refl, ap, ◌∙◌, subst, ⊎_elim, arith, w64, SFits, to_z, of_z}
 use Rattle.std.proofs.lemmas.Int.{ints, to_z-of_z}
-use Rattle.atmost.specs.Linear.{term, lows, listed}
+use Rattle.atmost.specs.Linear.{term}
 use Rattle.atmost.specs.Trims.{SmallSum}
-use Rattle.model.specs.declared.values.Term.{Term}
 use Rattle.atmost.specs.Laws.{term-listed}
-use Rattle.atmost.proofs.Parts.{plus, small-fits, small_more, sum_fits, some_same, lows_more, listed_more, take_whole}
+use Rattle.atmost.proofs.Parts.{plus, small-fits, small_more, sum_fits, lows_more, listed_more}
 use Rattle.atmost.proofs.narrow.total.Goals as goal
 
 pub returns-in_err-sum-clause-value : goal.returns-in_err-sum-clause-value
@@ -42,21 +41,3 @@ loop-term-preserved g c =
             is ∙ omega (arith, ints, sym c.loop-term.sum-is ∙ inv.1, p.1, lows_more s.width s.domains ts k c.loop-term-test.true),
           ),
     )
-
-pub returns : goal.returns
-returns g c =
-    let k = c.loop-term.term-index in
-    let ts = c.args.terms.now in
-    let few : length c.args.terms.now ≤ 64 = c.requires in
-    let s = g.T.DomainTable.means c.args.table.now in
-    let whole = take_whole ts k (omega (arith, c.loop-term-test.false)) in
-    record {
-      value = λ sd.
-          let inv = c.loop-term.invariant.1 sd in
-          (λ x h. inv.0 x (ap (λ (us : List Term). listed us x) whole ∙ h), inv.1 ∙ ap (lows s.width s.domains) whole);
-      bound = λ z e.
-          let q = some_same _ z e in
-          let b = subst (SmallSum k) q c.loop-term.invariant.0 in
-          let l : k ≤ 64 = omega (arith, few, c.loop-term.auto.term-index-end) in
-          (omega (arith, ints, b.0), omega (arith, ints, b.1));
-    }
