@@ -9,7 +9,7 @@ use Rattle.tables.specs.declared.table.TableFault.{TableFault}
 use Rattle.kinds.specs.Demands.{Demands}
 use Rattle.kinds.specs.Problems.{problem}
 use Rattle.spaces.specs.Pile.{SpaceState, Stands}
-use Rattle.spaces.specs.Tops.{shown, stacked}
+use Rattle.spaces.specs.Tops.{shown, stacked, saved_of}
 use Rattle.spaces.specs.declared.base.Top.{Top}
 use Rattle.marking.specs.declared.Marking.{Marking}
 
@@ -28,10 +28,6 @@ younger (T ∷ U ∷ Ts) = table T ∷ younger (U ∷ Ts)
 abbrev pub base_of : Option Top → TableState → Table
 base_of None t = t.domains
 base_of (Some a) t = oldest t.domains t.saved
-
-abbrev pub saved_of : Option Top → TableState → List Table
-saved_of None t = t.saved
-saved_of (Some a) t = []
 
 abbrev pub pile_of : Option Top → TableState → List Node
 pile_of None t = []

@@ -13,12 +13,9 @@ use filtering::filter::Start;
 use kinds::kind::Kinds;
 use model::model::Model;
 use spaces::ask::chosen;
-use spaces::base::{Base, Top};
+use spaces::base::{Base, MOST, Top};
 use spaces::space::{Space, SpaceFault, State};
 use tables::table::{DomainTable, TableFault};
-
-// Takes never outnumber the variables, of which a model has at most 64.
-const MOST: usize = 64;
 
 // Restores k marks and one more.
 fn rewind<T: DomainTable>(table: &mut T, k: usize) -> Result<(), TableFault>
@@ -35,7 +32,7 @@ fn rewind<T: DomainTable>(table: &mut T, k: usize) -> Result<(), TableFault>
 pub struct Marking<'m, T: DomainTable, K: Kinds> {
     base: Base<'m, T, K>,
     // what the takes that stand took, the oldest first
-    choices: ArrayVec<(usize, u8), 64>,
+    choices: ArrayVec<(usize, u8), MOST>,
 }
 
 impl<'m, T: DomainTable, K: Kinds> Marking<'m, T, K> {

@@ -8,7 +8,7 @@ use Rattle.tables.specs.States.{TableState}
 use Rattle.kinds.specs.Demands.{Demands}
 use Rattle.kinds.specs.Problems.{problem}
 use Rattle.spaces.specs.Pile.{SpaceState}
-use Rattle.spaces.specs.Tops.{shown}
+use Rattle.spaces.specs.Tops.{shown, saved_of}
 use Rattle.spaces.specs.declared.base.Top.{Top}
 use Rattle.recomputing.specs.Walk.{top, under, taken, Walked}
 use Rattle.recomputing.specs.declared.path.Step.{Step}
@@ -22,10 +22,6 @@ first (T ∷ Ts) = T
 abbrev pub base_of : Option Top → TableState → Table
 base_of None t = t.domains
 base_of (Some a) t = first t.saved
-
-abbrev pub saved_of : Option Top → TableState → List Table
-saved_of None t = t.saved
-saved_of (Some a) t = []
 
 abbrev pub pile_of : Option Top → Problem → Table → List Step → List Node
 pile_of None P B ss = []

@@ -11,12 +11,9 @@ use filtering::filter::Start;
 use kinds::kind::Kinds;
 use model::model::Model;
 use spaces::ask::chosen;
-use spaces::base::{Base, Top};
+use spaces::base::{Base, MOST, Top};
 use spaces::space::{Space, SpaceFault, State};
 use tables::table::DomainTable;
-
-// Takes never outnumber the variables, of which a model has at most 64.
-const MOST: usize = 64;
 
 // A space that marks its table at the base alone and keeps the path from there.
 #[derive(Drop)]

@@ -32,5 +32,9 @@ lands_well P s t o (Ok u) a b h = tt
 lands_well P s t o (Err e) a b h = absurd h
 
 -- the top of a run that can be taken from
-pub live_is : (o : Option Top) (a : Top) → o ≡ Some a → a ≡ Live → o ≡ Some Live
-live_is o a e h = e ∙ ap Some h
+pub live_is : {o : Option Top} {a : Top} → o ≡ Some a → a ≡ Live → o ≡ Some Live
+live_is e h = e ∙ ap Some h
+
+-- a return that no sound space comes to promises anything
+pub never : {S A : Type 0} → (S → ⊥) → S → A
+never h sd = absurd (h sd)

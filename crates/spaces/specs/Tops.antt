@@ -21,6 +21,11 @@ topmost (Some a) T = shown a T ∷ []
 abbrev pub stacked : TableState → Table → List Table → TableState
 stacked s T Ts = record { variables = s.variables; width = s.width; domains = T; saved = Ts; depth = s.depth }
 
+-- the tables that were saved before the run
+abbrev pub saved_of : Option Top → TableState → List Table
+saved_of None t = t.saved
+saved_of (Some a) t = []
+
 -- a space without a run, over the table t
 abbrev pub opened : Problem → TableState → ℕ → SpaceState
 opened P t d = record { problem = P; variables = t.variables; base = t.domains; saved = t.saved; room = t.depth; pile = []; choices = []; depth = d }

@@ -15,6 +15,9 @@ use kinds::kind::Kinds;
 use model::model::Model;
 use tables::table::DomainTable;
 
+// Takes never outnumber the variables, of which a model has at most 64.
+pub const MOST: usize = 64;
+
 // What the table of a run is.
 #[derive(Clone, Copy, PartialEq, Eq, Debug)]
 pub enum Top {

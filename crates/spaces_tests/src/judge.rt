@@ -78,12 +78,17 @@ fn keeps(rule: Rule, sets: &Sets, variables: u8, x: u8, v: u8) -> bool {
                 return true;
             }
             let mut sum: i64 = 0;
-            for y in 0..variables.min(8) {
-                let factor = i64::from(coefficients[y as usize]);
-                if y == x {
+            for (y, (coefficient, set)) in coefficients
+                .iter()
+                .zip(sets.iter())
+                .enumerate()
+                .take(variables as usize)
+            {
+                let factor = i64::from(*coefficient);
+                if y == x as usize {
                     sum = sum.saturating_add(factor.saturating_mul(i64::from(v)));
                 } else if factor != 0 {
-                    sum = sum.saturating_add(lowest(factor, sets[y as usize]));
+                    sum = sum.saturating_add(lowest(factor, *set));
                 }
             }
             sum <= i64::from(bound)
@@ -98,15 +103,16 @@ fn without(set: u64, v: u8) -> u64 {
 // The sets without the values that a rule cannot keep.
 fn pruned(sample: &Sample, sets: &Sets) -> Sets {
     let mut left = *sets;
-    for x in 0..sample.variables {
-        let at = (x % 64) as usize;
+    let variables = sample.variables;
+    for (x, set) in left.iter_mut().enumerate().take(variables as usize) {
         for v in 0..64u8 {
-            if has(sets[at], v) {
-                for rule in sample.rules {
-                    if !keeps(rule, sets, sample.variables, x, v) {
-                        left[at] = without(left[at], v);
-                    }
-                }
+            if has(*set, v)
+                && sample
+                    .rules
+                    .iter()
+                    .any(|rule| !keeps(*rule, sets, variables, x as u8, v))
+            {
+                *set = without(*set, v);
             }
         }
     }

@@ -16,6 +16,23 @@ use stores::trail::{Cell, Entry, Trail};
 use tables::table::DomainTable;
 use tables::words::WordTable;
 
+// What the memory lent to a trail holds before it is opened.
+const CELL: Cell = Cell { value: 9, stamp: 9 };
+
+const ENTRY: Entry = Entry {
+    cell: 3,
+    value: 9,
+    stamp: 9,
+};
+
+// Which store a table is opened over; the layers are a ceiling of half the depth, a tally and copies.
+#[derive(Clone, Copy, Debug, Drop)]
+pub enum Over {
+    Trail,
+    Copies,
+    Layers,
+}
+
 // The memory that is lent, marks that stand at the base, a variable whose domain is emptied there, and the script.
 #[derive(Clone, Copy, Drop)]
 pub struct Case {
@@ -72,13 +89,13 @@ impl Case {
         table
     }
 
-    // Runs the scripts on the space and on the judge.
-    fn agrees<S: Space>(&self, space: &mut S, judge: &mut Judge) -> Result<bool, AllocError> {
-        Ok(
-            same(space, judge)
-                && agree_on_a_chain(space, judge)?
-                && agree_by_chance(space, judge, self.seed, self.steps)?,
-        )
+    // Runs the scripts on the space and on the judge, and ends the run.
+    fn agrees_on<S: Space>(&self, space: &mut S, judge: &mut Judge) -> Result<bool, AllocError> {
+        let agreed = same(space, judge)
+            && agree_on_a_chain(space, judge)?
+            && agree_by_chance(space, judge, self.seed, self.steps)?;
+        let _ = space.leave();
+        Ok(agreed)
     }
 
     // Whether the table is the base again, with just its saved tables.
@@ -90,75 +107,56 @@ impl Case {
             })
     }
 
-    fn marking<T: DomainTable + Drop>(
-        &self,
-        given: Given<'_>,
-        table: T,
-    ) -> Result<bool, AllocError> {
+    fn marking<S: Store + Drop>(&self, given: Given<'_>, store: S) -> Result<bool, AllocError> {
+        let table = self.prepared(given.model, store);
         let room = table.depth();
         let mut judge = self.judge(given, room, room.saturating_sub(1).min(64));
         let mut space = Marking::open(table, standard(), given.model);
-        let agreed = self.agrees(&mut space, &mut judge)?;
-        let _ = space.leave();
+        let agreed = self.agrees_on(&mut space, &mut judge)?;
         let (table, _) = space.into_parts();
         Ok(agreed && self.given_back(&table, &judge.base))
     }
 
-    fn recomputing<T: DomainTable + Drop>(
-        &self,
-        given: Given<'_>,
-        table: T,
-    ) -> Result<bool, AllocError> {
+    fn recomputing<S: Store + Drop>(&self, given: Given<'_>, store: S) -> Result<bool, AllocError> {
+        let table = self.prepared(given.model, store);
         let room = table.depth();
         let depth = if room == 0 { 0 } else { 64 };
         let mut judge = self.judge(given, room, depth);
         let mut space = Recomputing::open(table, standard(), given.model);
-        let agreed = self.agrees(&mut space, &mut judge)?;
-        let _ = space.leave();
+        let agreed = self.agrees_on(&mut space, &mut judge)?;
         let (table, _) = space.into_parts();
         Ok(agreed && self.given_back(&table, &judge.base))
     }
 
-    pub fn on_trail(&self, given: Given<'_>) -> Result<bool, AllocError> {
+    // Runs the scripts on one space, and then on the other over the same memory.
+    pub fn agrees(&self, given: Given<'_>, over: Over) -> Result<bool, AllocError> {
         let heap = given.heap;
-        let cell = Cell { value: 9, stamp: 9 };
-        let entry = Entry {
-            cell: 3,
-            value: 9,
-            stamp: 9,
-        };
-        let mut cells = vec![in heap; cell; self.cells]?;
-        let mut entries = vec![in heap; entry; self.cells.saturating_mul(self.depth)]?;
-        let marking = {
-            let store = Trail::open(cells.as_mut_slice(), entries.as_mut_slice(), self.cells);
-            self.marking(given, self.prepared(given.model, store))?
-        };
-        let store = Trail::open(cells.as_mut_slice(), entries.as_mut_slice(), self.cells);
-        Ok(marking && self.recomputing(given, self.prepared(given.model, store))?)
-    }
-
-    pub fn on_copies(&self, given: Given<'_>) -> Result<bool, AllocError> {
-        let size = self.cells.saturating_mul(self.depth.saturating_add(1));
-        let mut words = vec![in given.heap; 9u64; size]?;
-        let marking = {
-            let store = Copying::open(words.as_mut_slice(), self.cells);
-            self.marking(given, self.prepared(given.model, store))?
-        };
-        let store = Copying::open(words.as_mut_slice(), self.cells);
-        Ok(marking && self.recomputing(given, self.prepared(given.model, store))?)
-    }
-
-    // Over a ceiling of half the depth, a tally and copies.
-    pub fn on_layers(&self, given: Given<'_>) -> Result<bool, AllocError> {
-        let size = self.cells.saturating_mul(self.depth.saturating_add(1));
-        let mut words = vec![in given.heap; 9u64; size]?;
-        let marking = {
-            let below = Tally::over(Copying::open(words.as_mut_slice(), self.cells));
-            let store = Ceiling::over(below, self.depth / 2);
-            self.marking(given, self.prepared(given.model, store))?
-        };
-        let below = Tally::over(Copying::open(words.as_mut_slice(), self.cells));
-        let store = Ceiling::over(below, self.depth / 2);
-        Ok(marking && self.recomputing(given, self.prepared(given.model, store))?)
+        let size = self.cells;
+        let saved = size.saturating_mul(self.depth);
+        match over {
+            Over::Trail => {
+                let mut cells = vec![in heap; CELL; size]?;
+                let mut entries = vec![in heap; ENTRY; saved]?;
+                let store = Trail::open(cells.as_mut_slice(), entries.as_mut_slice(), size);
+                let marking = self.marking(given, store)?;
+                let store = Trail::open(cells.as_mut_slice(), entries.as_mut_slice(), size);
+                Ok(marking && self.recomputing(given, store)?)
+            }
+            Over::Copies => {
+                let mut words = vec![in heap; 9u64; saved.saturating_add(size)]?;
+                let store = Copying::open(words.as_mut_slice(), size);
+                let marking = self.marking(given, store)?;
+                let store = Copying::open(words.as_mut_slice(), size);
+                Ok(marking && self.recomputing(given, store)?)
+            }
+            Over::Layers => {
+                let mut words = vec![in heap; 9u64; saved.saturating_add(size)]?;
+                let most = self.depth / 2;
+                let below = Tally::over(Copying::open(words.as_mut_slice(), size));
+                let marking = self.marking(given, Ceiling::over(below, most))?;
+                let below = Tally::over(Copying::open(words.as_mut_slice(), size));
+                Ok(marking && self.recomputing(given, Ceiling::over(below, most))?)
+            }
+        }
     }
 }

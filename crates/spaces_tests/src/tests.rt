@@ -1,4 +1,4 @@
-use crate::memory::{Case, Given};
+use crate::memory::{Case, Given, Over};
 use crate::sample::{Rule, Sample, bytes_of, sample_by};
 use model::model::Model;
 use std::alloc::Global;
@@ -15,9 +15,13 @@ fn agrees(rt: &impl Abort, heap: Global, sample: Sample, case: Case) -> Result<(
         model: &model,
         sample,
     };
-    assert!(rt; case.on_trail(given)?, "trail");
-    assert!(rt; case.on_copies(given)?, "copies");
-    assert!(rt; case.on_layers(given)?, "layers");
+    for (over, name) in [
+        (Over::Trail, "trail"),
+        (Over::Copies, "copies"),
+        (Over::Layers, "layers"),
+    ] {
+        assert!(rt; case.agrees(given, over)?, "{name}");
+    }
     Ok(())
 }
 

@@ -2,7 +2,7 @@ use Rattle.std.proofs.Common.{◌≡◌, length, reverse, arith}
 use Rattle.std.proofs.lemmas.Bool.Decides.{nat_tests}
 use Rattle.std.proofs.lemmas.List.{length-reverse}
 use Rattle.model.specs.Meaning.{means as model-means}
-use Rattle.spaces.proofs.Bases.{reverse_push, live_is}
+use Rattle.spaces.proofs.Bases.{reverse_push, live_is, never}
 use Rattle.marking.specs.Marks.{IsSound}
 use Rattle.marking.proofs.Marked.{alive, count-below, take_begins, take_done}
 use Rattle.marking.proofs.MarkingSpace.take.Goals as goal
@@ -14,7 +14,7 @@ returns-then-is_full-clause-does g c = λ sd.
     let m = model-means s.base.model.now in
     let t = g.T.DomainTable.means s.base.table in
     let cs = reverse s.choices.items in
-    let r = alive D m t s.base.top cs (live_is s.base.top c.in-Some-Live.field-0 c.in-Some-Live.is (rw c.in-Some-Live.is at c.in-Some-Live.field-0-is)) sd.runs in
+    let r = alive D m t s.base.top cs (live_is c.in-Some-Live.is (rw c.in-Some-Live.is at c.in-Some-Live.field-0-is)) sd.runs in
     let l = count-below D m t cs c.args.x c.args.v r (c.chosen.ensures.yes sd.part c.if-not-chosen.false) in
     let f = sd.few in
     let e = length-reverse s.choices.items in
@@ -30,12 +30,12 @@ returns-in_err-filtered g c =
     let t = tm s.base.table in
     let cs = reverse s.choices.items in
     let no_way : IsSound g.T.DomainTable.sound D tm s → ⊥ = λ sd.
-    let r = alive D m t s.base.top cs (live_is s.base.top c.in-Some-Live.field-0 c.in-Some-Live.is (rw c.in-Some-Live.is at c.in-Some-Live.field-0-is)) sd.runs in
+    let r = alive D m t s.base.top cs (live_is c.in-Some-Live.is (rw c.in-Some-Live.is at c.in-Some-Live.field-0-is)) sd.runs in
     let h = c.in_ok-mark.ensures.does sd.part in
     let q = c.in_ok-keep.ensures.does h.1 in
     let b = take_begins D m t (tm c.mark.new.self) (tm c.keep.new.self) c.args.x c.args.v cs c.in_ok-keep.field-0 r h.0 q.0 in
     (c.in_err-filtered.ensures.does q.1).0 b.0 b.1 in
-    record { does = λ sd. absurd (no_way sd); refused = λ sd. absurd (no_way sd) }
+    record { does = never no_way; refused = never no_way }
 
 pub returns-clause-does : goal.returns-clause-does
 returns-clause-does g c = λ sd.
@@ -47,7 +47,7 @@ returns-clause-does g c = λ sd.
     let t = tm s.base.table in
     let z = c.filtered.new.self in
     let cs = reverse s.choices.items in
-    let on = live_is s.base.top c.in-Some-Live.field-0 c.in-Some-Live.is (rw c.in-Some-Live.is at c.in-Some-Live.field-0-is) in
+    let on = live_is c.in-Some-Live.is (rw c.in-Some-Live.is at c.in-Some-Live.field-0-is) in
     let h = c.in_ok-mark.ensures.does sd.part in
     let q = c.in_ok-keep.ensures.does h.1 in
     let b = take_begins D m t (tm c.mark.new.self) (tm c.keep.new.self) c.args.x c.args.v cs c.in_ok-keep.field-0 (alive D m t s.base.top cs on sd.runs) h.0 q.0 in

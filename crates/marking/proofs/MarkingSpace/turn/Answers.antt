@@ -2,7 +2,7 @@ use Rattle.std.proofs.Common.{reverse, not, ap, ◌∙◌, ⊎_elim, arith}
 use Rattle.model.specs.Meaning.{means as model-means}
 use Rattle.kinds.specs.Problems.{problem}
 use Rattle.spaces.specs.Bases.{Lands}
-use Rattle.spaces.proofs.Bases.{reverse_push, lands_well}
+use Rattle.spaces.proofs.Bases.{reverse_push, lands_well, never}
 use Rattle.marking.specs.Marks.{IsSound}
 use Rattle.marking.proofs.Marked.{forked, turn_begins, turn_well}
 use Rattle.marking.proofs.MarkingSpace.turn.Goals as goal
@@ -22,7 +22,7 @@ returns-in_err-drop g c =
     let b = (g.T.DomainTable.bounded c.restore.new.self h.1).within _ _ fk.chose.has in
     let z : ⊥ = ⊎_elim (λ l. omega arith) (λ l. omega arith) d.0.0 in
     z in
-    record { does = λ sd. absurd (no_way sd); refused = λ sd. absurd (no_way sd) }
+    record { does = never no_way; refused = never no_way }
 
 pub returns : goal.returns
 returns g c =

@@ -1,6 +1,6 @@
 use Rattle.std.proofs.Common.{◌≡◌, length, reverse, not, Ok, ap, ◌∙◌, subst, arith}
 use Rattle.model.specs.Meaning.{means as model-means}
-use Rattle.spaces.proofs.Bases.{reverse_push}
+use Rattle.spaces.proofs.Bases.{reverse_push, never}
 use Rattle.recomputing.specs.Walk.{taken, Replays}
 use Rattle.recomputing.specs.Recomputed.{IsSound}
 use Rattle.recomputing.specs.Walks.{no_take}
@@ -16,7 +16,7 @@ returns-in_default g c =
     let h = sd.counted in
     let t = c.if-self-eq0.false in
     omega arith in
-    record { does = λ sd. absurd (no_way sd); refused = λ sd. absurd (no_way sd) }
+    record { does = never no_way; refused = never no_way }
 
 pub returns-in_err-replay : goal.returns-in_err-replay
 returns-in_err-replay g c =
@@ -36,7 +36,7 @@ returns-in_err-replay g c =
     let r = c.in_err-replay.ensures h.1 in
     replays D m (S s.base.table) t s.takes ss s.base.top (tm c.mark.new.self) (tm c.replay.new.table) (reverse c.unwind.new.path.items) (reverse c.as_slice.result.now) c.in-Some.x c.in-Some.v c.in_err-replay.field-0.0
     (g.T.DomainTable.bounded s.base.table sd.part) sd on c.in-Some.ensures.unwinds e pp r.0 in
-    record { does = λ sd. absurd (no_way sd); refused = λ sd. absurd (no_way sd) }
+    record { does = never no_way; refused = never no_way }
 
 pub returns-clause-does : goal.returns-clause-does
 returns-clause-does g c = λ sd.
