@@ -71,13 +71,7 @@ fn next_agrees<P: Space, R: Rule>(
     match plan {
         None => untouched(&row),
         Some(values) => {
-            for (i, (v, u)) in row.iter().zip(values.iter()).enumerate() {
-                let kept = if i < n { *u } else { 99 };
-                if *v != kept {
-                    return false;
-                }
-            }
-            true
+            row.iter().take(n).eq(values.iter().take(n)) && row.iter().skip(n).all(|v| *v == 99)
         }
     }
 }
