@@ -29,34 +29,42 @@ fn pairs_of<T: DomainTable>(
     Ok(pairs)
 }
 
-// Filters the table as it is, and compares with the judge. It answers whether there is a filtered table.
-fn agrees<T: DomainTable>(
-    rt: &impl Abort,
+// What a table is filtered by: a model, and the judge's rules over so many variables.
+#[derive(Drop)]
+struct Measure<'a> {
     heap: Global,
-    table: &mut T,
-    model: &Model,
-    rules: &[Rule],
-    start: Start,
+    model: &'a Model,
+    rules: &'a [Rule],
     variables: u8,
-) -> Result<bool, Fail> {
-    let before = pairs_of(heap, table, variables)?;
-    let expected = fixpoint(heap, &before, rules, variables)?;
-    let marks = table.marks();
-    let mut list = WaitingList::new();
-    let found = filter(table, model, &standard(), &mut list, start)?;
-    assert!(rt; list.pop().is_none(), "the list is empty again");
-    assert!(rt; table.marks() == marks, "marks");
-    match expected {
-        Some(left) => {
-            assert!(rt; found, "not failed");
-            let after = pairs_of(heap, table, variables)?;
-            assert!(rt; after.as_slice() == left.as_slice(), "the filtered table");
+}
+
+impl<'a> Measure<'a> {
+    // Filters the table as it is, and compares with the judge. It answers whether there is a filtered table.
+    fn agrees<T: DomainTable>(
+        &self,
+        rt: &impl Abort,
+        table: &mut T,
+        start: Start,
+    ) -> Result<bool, Fail> {
+        let before = pairs_of(self.heap, table, self.variables)?;
+        let expected = fixpoint(self.heap, &before, self.rules, self.variables)?;
+        let marks = table.marks();
+        let mut list = WaitingList::new();
+        let found = filter(table, self.model, &standard(), &mut list, start)?;
+        assert!(rt; list.pop().is_none(), "the list is empty again");
+        assert!(rt; table.marks() == marks, "marks");
+        match expected {
+            Some(left) => {
+                assert!(rt; found, "not failed");
+                let after = pairs_of(self.heap, table, self.variables)?;
+                assert!(rt; after.as_slice() == left.as_slice(), "the filtered table");
+            }
+            None => {
+                assert!(rt; !found, "failed");
+            }
         }
-        None => {
-            assert!(rt; !found, "failed");
-        }
+        Ok(found)
     }
-    Ok(found)
 }
 
 // From the windows, and then twice after a decision on a variable, from the table that is filtered by then.
@@ -68,14 +76,19 @@ fn agrees_after_decisions(
 ) -> Result<(), Fail> {
     let writer = sample.bytes(heap)?;
     let windows = sample.windows.as_slice();
-    let rules = sample.rules.as_slice();
     let mut model = Model::fresh();
     model.read(writer.bytes())?;
     let variables = (windows.len() % 65) as u8;
     let mut words = [9u64; 256];
     let mut table = WordTable::open(&model, Copying::open(&mut words, windows.len()));
     assert!(rt; table.variables() == windows.len());
-    if !agrees(rt, heap, &mut table, &model, rules, Start::All, variables)? {
+    let measure = Measure {
+        heap,
+        model: &model,
+        rules: sample.rules.as_slice(),
+        variables,
+    };
+    if !measure.agrees(rt, &mut table, Start::All)? {
         return Ok(());
     }
     for step in 0..4u8 {
@@ -89,15 +102,7 @@ fn agrees_after_decisions(
         } else {
             let _ = table.keep(x, v)?;
         }
-        if !agrees(
-            rt,
-            heap,
-            &mut table,
-            &model,
-            rules,
-            Start::Changed(x),
-            variables,
-        )? {
+        if !measure.agrees(rt, &mut table, Start::Changed(x))? {
             return Ok(());
         }
     }

@@ -52,65 +52,8 @@ fn visit_all<P: Space, R: Rule>(
     Ok(false)
 }
 
-// One call of next with a long row: the answer is the judge's, and the row is as it was but for a plan at its front.
-fn next_agrees<P: Space, R: Rule>(
-    search: &mut Search<P, R>,
-    judge: &mut Judge,
-    budget: u64,
-    n: usize,
-) -> bool {
-    let mut row = [99; MOST];
-    let answer = match search.next(budget, &mut row) {
-        Ok(answer) => answer,
-        Err(_) => return false,
-    };
-    let (expected, plan) = judge.next(budget);
-    if answer != expected {
-        return false;
-    }
-    match plan {
-        None => untouched(&row),
-        Some(values) => {
-            for (i, (v, u)) in row.iter().zip(values.iter()).enumerate() {
-                let kept = if i < n { *u } else { 99 };
-                if *v != kept {
-                    return false;
-                }
-            }
-            true
-        }
-    }
-}
-
-// Calls that are refused inside a session.
-fn refuses<P: Space, R: Rule>(search: &mut Search<P, R>, n: usize) -> bool {
-    let mut short: [u8; 0] = [];
-    let mut row = [99; MOST];
-    let begun = match search.begin() {
-        Ok(ticket) => {
-            let _ = search.close(ticket);
-            false
-        }
-        Err(fault) => fault.number() == 42 && fault.place() == 0,
-    };
-    begun
-        && (n == 0 || is_refused(search.next(0, &mut short), 44, 0))
-        && is_refused(search.next(0, &mut row), 45, 0)
-        && untouched(&row)
-}
-
-// With no session the space is as it was opened, and next is refused.
-fn rests<P: Space, R: Rule>(search: &mut Search<P, R>, sizes: u64) -> bool {
-    let mut row = [99; MOST];
-    is_refused(search.next(5, &mut row), 43, 0)
-        && untouched(&row)
-        && search.space().state() == State::NoRun
-        && search.space().nodes() == 0
-        && sizes_of(search) == sizes
-}
-
 // The sizes of all domains, as digits.
-pub fn sizes_of<P: Space, R: Rule>(search: &Search<P, R>) -> u64 {
+fn sizes_of<P: Space, R: Rule>(search: &Search<P, R>) -> u64 {
     let mut sum = 0u64;
     for x in 0..search.space().domains() {
         if let Ok(size) = search.space().size(x) {
@@ -120,56 +63,112 @@ pub fn sizes_of<P: Space, R: Rule>(search: &Search<P, R>) -> u64 {
     sum
 }
 
-fn session<P: Space, R: Rule>(
-    search: &mut Search<P, R>,
-    judge: &mut Judge,
+// A search against its judge, over so many variables.
+#[derive(Drop)]
+struct Bout<'a, P: Space, R: Rule> {
+    search: &'a mut Search<P, R>,
+    judge: &'a mut Judge,
     n: usize,
-    seed: u64,
-) -> bool {
-    let mut seed = seed;
-    let calls = seed % 60;
-    for _ in 0..calls {
-        seed = mixed(seed);
-        let agreed = if seed % 5 == 0 {
-            refuses(search, n)
-        } else {
-            next_agrees(search, judge, 1 + (seed >> 8) % 6, n)
-        };
-        if !agreed {
-            return false;
-        }
-    }
-    true
 }
 
-// Some sessions, each closed where it happens to stand.
+impl<'a, P: Space, R: Rule> Bout<'a, P, R> {
+    // One call of next with a long row: the answer is the judge's, and the row is as it was but for a plan at its front.
+    fn next_agrees(&mut self, budget: u64) -> bool {
+        let n = self.n;
+        let mut row = [99; MOST];
+        let Ok(answer) = self.search.next(budget, &mut row) else {
+            return false;
+        };
+        let (expected, plan) = self.judge.next(budget);
+        if answer != expected {
+            return false;
+        }
+        match plan {
+            None => untouched(&row),
+            Some(values) => {
+                row.iter().take(n).eq(values.iter().take(n)) && row.iter().skip(n).all(|v| *v == 99)
+            }
+        }
+    }
+
+    // Calls that are refused inside a session.
+    fn refuses(&mut self) -> bool {
+        let mut short: [u8; 0] = [];
+        let mut row = [99; MOST];
+        let begun = match self.search.begin() {
+            Ok(ticket) => {
+                let _ = self.search.close(ticket);
+                false
+            }
+            Err(fault) => fault.number() == 42 && fault.place() == 0,
+        };
+        begun
+            && (self.n == 0 || is_refused(self.search.next(0, &mut short), 44, 0))
+            && is_refused(self.search.next(0, &mut row), 45, 0)
+            && untouched(&row)
+    }
+
+    // With no session the space is as it was opened, and next is refused.
+    fn rests(&mut self, sizes: u64) -> bool {
+        let mut row = [99; MOST];
+        is_refused(self.search.next(5, &mut row), 43, 0)
+            && untouched(&row)
+            && self.search.space().state() == State::NoRun
+            && self.search.space().nodes() == 0
+            && sizes_of(self.search) == sizes
+    }
+
+    fn session(&mut self, seed: u64) -> bool {
+        let mut seed = seed;
+        let calls = seed % 60;
+        for _ in 0..calls {
+            seed = mixed(seed);
+            let agreed = if seed % 5 == 0 {
+                self.refuses()
+            } else {
+                self.next_agrees(1 + (seed >> 8) % 6)
+            };
+            if !agreed {
+                return false;
+            }
+        }
+        true
+    }
+
+    // Some sessions, each closed where it happens to stand.
+    fn sessions_agree(&mut self, seed: u64) -> bool {
+        let sizes = sizes_of(self.search);
+        let mut seed = seed;
+        for _ in 0..20u8 {
+            seed = mixed(seed);
+            self.judge.counted = 0;
+            if !self.rests(sizes) {
+                return false;
+            }
+            let agreed = match self.search.begin() {
+                Err(_) => false,
+                Ok(ticket) => {
+                    let agreed = self.session(seed);
+                    match self.search.close(ticket) {
+                        Ok(()) => agreed,
+                        Err(_) => false,
+                    }
+                }
+            };
+            if !agreed {
+                return false;
+            }
+        }
+        self.rests(sizes)
+    }
+}
+
 pub fn sessions_agree<P: Space, R: Rule>(
     search: &mut Search<P, R>,
     judge: &mut Judge,
     n: usize,
     seed: u64,
 ) -> bool {
-    let sizes = sizes_of(search);
-    let mut seed = seed;
-    for _ in 0..20u8 {
-        seed = mixed(seed);
-        judge.counted = 0;
-        if !rests(search, sizes) {
-            return false;
-        }
-        let agreed = match search.begin() {
-            Err(_) => false,
-            Ok(ticket) => {
-                let agreed = session(search, judge, n, seed);
-                match search.close(ticket) {
-                    Ok(()) => agreed,
-                    Err(_) => false,
-                }
-            }
-        };
-        if !agreed {
-            return false;
-        }
-    }
-    rests(search, sizes)
+    let mut bout = Bout { search, judge, n };
+    bout.sessions_agree(seed)
 }
