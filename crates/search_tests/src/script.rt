@@ -118,7 +118,8 @@ impl<'a, P: Space, R: Rule> Bout<'a, P, R> {
             && sizes_of(self.search) == sizes
     }
 
-    fn session(&mut self, seed: u64) -> bool {
+    // Calls of a session that is open.
+    fn calls(&mut self, seed: u64) -> bool {
         let mut seed = seed;
         let calls = seed % 60;
         for _ in 0..calls {
@@ -135,27 +136,23 @@ impl<'a, P: Space, R: Rule> Bout<'a, P, R> {
         true
     }
 
+    // One session from its begin to its close.
+    fn session(&mut self, seed: u64) -> bool {
+        self.judge.counted = 0;
+        let Ok(ticket) = self.search.begin() else {
+            return false;
+        };
+        let agreed = self.calls(seed);
+        self.search.close(ticket).is_ok() && agreed
+    }
+
     // Some sessions, each closed where it happens to stand.
-    fn sessions_agree(&mut self, seed: u64) -> bool {
+    fn sessions(&mut self, seed: u64) -> bool {
         let sizes = sizes_of(self.search);
         let mut seed = seed;
         for _ in 0..20u8 {
             seed = mixed(seed);
-            self.judge.counted = 0;
-            if !self.rests(sizes) {
-                return false;
-            }
-            let agreed = match self.search.begin() {
-                Err(_) => false,
-                Ok(ticket) => {
-                    let agreed = self.session(seed);
-                    match self.search.close(ticket) {
-                        Ok(()) => agreed,
-                        Err(_) => false,
-                    }
-                }
-            };
-            if !agreed {
+            if !self.rests(sizes) || !self.session(seed) {
                 return false;
             }
         }
@@ -163,6 +160,7 @@ impl<'a, P: Space, R: Rule> Bout<'a, P, R> {
     }
 }
 
+// Whether a search of so many variables answers as its judge in some sessions.
 pub fn sessions_agree<P: Space, R: Rule>(
     search: &mut Search<P, R>,
     judge: &mut Judge,
@@ -170,5 +168,5 @@ pub fn sessions_agree<P: Space, R: Rule>(
     seed: u64,
 ) -> bool {
     let mut bout = Bout { search, judge, n };
-    bout.sessions_agree(seed)
+    bout.sessions(seed)
 }
