@@ -10,8 +10,7 @@ use arrayvec::ArrayVec;
 use filtering::filter::Start;
 use kinds::kind::Kinds;
 use model::model::Model;
-use spaces::ask::chosen;
-use spaces::base::{Base, MOST, Top};
+use spaces::base::{Base, MOST};
 use spaces::space::{Space, SpaceFault, State};
 use tables::table::DomainTable;
 
@@ -68,14 +67,7 @@ impl<'m, T: DomainTable, K: Kinds> Space for Recomputing<'m, T, K> {
     }
 
     fn take(&mut self, x: usize, v: u8) -> Result<(), SpaceFault> {
-        match self.base.top {
-            None => return Err(SpaceFault::Idle),
-            Some(Top::Failed) => return Err(SpaceFault::Failed(self.nodes())),
-            Some(Top::Live) => {}
-        }
-        if !chosen(&self.base.table, x, v) {
-            return Err(SpaceFault::NoChoice(x));
-        }
+        self.base.can_take(self.nodes(), x, v)?;
         if self.takes >= MOST {
             return Err(SpaceFault::NoChoice(x));
         }

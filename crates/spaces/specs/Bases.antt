@@ -1,6 +1,6 @@
 -- What the calls of a base do. Assumes nothing.
 use Rattle.std.specs.Prelude.{◌≡◌, ℕ, ◌<◌, ◌⊎◌, [], ◌∷◌, length, Ok, Err, Some, None, Option, Result}
-use Rattle.tree.specs.Tables.{Table}
+use Rattle.tree.specs.Tables.{Table, Choice}
 use Rattle.tree.specs.Filter.{Problem, NodeOf}
 use Rattle.model.specs.Values.{Value}
 use Rattle.tables.specs.States.{TableState, with_domains}
@@ -11,7 +11,7 @@ use Rattle.spaces.specs.Calls.{Says, Unmarked, Fails}
 use Rattle.spaces.specs.declared.base.Top.{Top}
 use Rattle.spaces.specs.declared.base.Top.TheVariants.{Live, Failed}
 use Rattle.spaces.specs.declared.space.SpaceFault.{SpaceFault}
-use Rattle.spaces.specs.declared.space.SpaceFault.TheVariants.{Failed as HasFailed}
+use Rattle.spaces.specs.declared.space.SpaceFault.TheVariants.{Idle, NoChoice, Failed as HasFailed}
 
 -- refused where the top failed, with k nodes on the pile
 abbrev pub Unfailed : Option Top → ℕ → Result Unit SpaceFault → Type 0
@@ -27,6 +27,15 @@ abbrev pub Asked : {R : Type 0} → Option Top → ℕ → Table → (Table → 
 Asked None k T Q r = Q T r
 Asked (Some Live) k T Q r = Q T r
 Asked (Some Failed) k T Q r = Fails k r
+
+-- The table T lives on top, and v is a value of the open x; or else why not, with k nodes on the pile.
+abbrev pub CanTake : Option Top → ℕ → Table → ℕ → ℕ → Result Unit SpaceFault → Type 0
+CanTake None k T x v (Ok u) = ⊥
+CanTake None k T x v (Err e) = e ≡ Idle
+CanTake (Some Failed) k T x v (Ok u) = ⊥
+CanTake (Some Failed) k T x v (Err e) = e ≡ HasFailed k
+CanTake (Some Live) k T x v (Ok u) = Choice T x v
+CanTake (Some Live) k T x v (Err e) = (Choice T x v → ⊥) × (e ≡ NoChoice x)
 
 -- the node of the table s lies on top
 abbrev pub Lies : Problem → TableState → TableState → Option Top → Type 0

@@ -5,9 +5,9 @@ ghost use Rattle.kinds.specs.Problems.{problem};
 ghost use Rattle.filtering.specs.Filters.{Begins};
 ghost use Rattle.spaces.specs.Calls.{Told, Sized, Lowest, Highest, state};
 ghost use Rattle.spaces.specs.Tops.{topmost};
-ghost use Rattle.spaces.specs.Bases.{Unfailed, Asked, Lands, Starts};
+ghost use Rattle.spaces.specs.Bases.{Unfailed, Asked, CanTake, Lands, Starts};
 
-use crate::ask::some_open;
+use crate::ask::{chosen, some_open};
 use crate::space::{SpaceFault, State};
 use filtering::filter::{Start, filter};
 use filtering::list::WaitingList;
@@ -103,6 +103,23 @@ impl<'m, T: DomainTable, K: Kinds> Base<'m, T, K> {
         match self.top {
             Some(Top::Failed) => Err(SpaceFault::Failed(nodes)),
             Some(Top::Live) | None => Ok(()),
+        }
+    }
+
+    // A take needs a table that lives, and a value of an open variable; so many nodes are on the pile.
+    pub fn can_take(&self, nodes: usize, x: usize, v: u8) -> Result<(), SpaceFault>
+        ensures { T.DomainTable.sound self.now.table → CanTake self.now.top nodes (T.DomainTable.means self.now.table).domains x v result }
+    {
+        match self.top {
+            None => Err(SpaceFault::Idle),
+            Some(Top::Failed) => Err(SpaceFault::Failed(nodes)),
+            Some(Top::Live) => {
+                if chosen(&self.table, x, v) {
+                    Ok(())
+                } else {
+                    Err(SpaceFault::NoChoice(x))
+                }
+            }
         }
     }
 

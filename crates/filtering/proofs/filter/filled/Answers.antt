@@ -7,6 +7,3 @@ loop-x-preserved g c = λ sd.
     let s = g.T.DomainTable.means c.args.table.now in
     below_more _ _ (c.loop-x.invariant sd)
     (c.in-Some.field-0, (subst (λ (z : Option ℕ). Leasts s c.loop-x.x (Ok z)) c.in-Some.is (c.in_ok-least.ensures sd)).1.0)
-
-pub returns : goal.returns
-returns g c = λ sd x h. c.loop-x.invariant sd x (omega (arith, c.variables-x-end.ensures sd, h))

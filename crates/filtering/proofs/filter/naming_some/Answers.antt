@@ -11,12 +11,6 @@ use Rattle.filtering.proofs.Listing.{listed-member, member-listed, map-same}
 use Rattle.filtering.proofs.Queues.{among-end}
 use Rattle.filtering.proofs.filter.naming_some.Goals as goal
 
-pub loop-x-init : goal.loop-x-init
-loop-x-init c = record {
-  some = λ i h. absurd (both_ways (has c.empty-found.result.word i) (c.empty-found.ensures i) h);
-  none = λ i h x v. absurd (both_ways false refl v);
-}
-
 pub loop-x-preserved : goal.loop-x-preserved
 loop-x-preserved c =
     let rs = records c.args.model.now in

@@ -25,9 +25,6 @@ returns-then-not-branch g c = λ idle sd.
       sd,
     )
 
-pub loop-round-init : goal.loop-round-init
-loop-round-init g c = λ sd. (λ vs mid. mid, sd)
-
 pub returns-in_default : goal.returns-in_default
 returns-in_default g c = λ idle sd.
     let m = c.args.model.now in
@@ -43,11 +40,6 @@ returns-in_default g c = λ idle sd.
           (mid.narrowed, done A laws s t c.loop-round.list c.loop-round._round mid c.in_default.ensures.pops.0),
       inv.1,
     )
-
-pub returns-in_err-shrunk : goal.returns-in_err-shrunk
-returns-in_err-shrunk g c = λ idle sd.
-    let did = c.in_err-shrunk.ensures (c.loop-round.invariant sd).1 in
-    (λ vs b. absurd did.0, did.1)
 
 pub returns-in-Failed : goal.returns-in-Failed
 returns-in-Failed g c = λ idle sd.

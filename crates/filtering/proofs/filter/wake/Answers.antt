@@ -15,10 +15,3 @@ loop-i-preserved c =
     c.push.ensures.waits (item-below c.args.set.word (length c.loop-i.yielded) c.in-Some.i t).0 ∙
     ap (λ (q : List ℕ). behind q c.in-Some.i) c.loop-i.invariant ∙
     sym (woken-end c.loop-i.yielded c.in-Some.i (queue c.args.list.now))
-
-pub returns : goal.returns
-returns c =
-    let e = ap (λ (m : Members). members m.left.word) (c.into_iter-i-iterator.ensures.into_iter_gives ∙ c.members-i-items.ensures) in
-    let y = YieldsList-from_first (λ (x : ℕ). x) (λ (m : Members). members m.left.word) (members c.args.set.word) e in
-    let d = YieldsList-end y c.loop-i.yielded _ c.loop-i.yielded_by _ _ c.in-None.is c.next.ensures.steps in
-    c.loop-i.invariant ∙ ap (λ (is : List ℕ). woken is (queue c.args.list.now)) (sym (map-same c.loop-i.yielded) ∙ d.0)

@@ -4,9 +4,6 @@ use Rattle.search.proofs.Preferring.{ScannedOn, refused, empty, scan_begins, sca
 use Rattle.search.proofs.rule.preferred.Goals as goal
 use Rattle.search.proofs.rule.preferred.Goals.{then-size-gt1+then-replaces+else-settles, else-size-gt1, else-size-gt1-via-then-size-gt1+else-replaces, else-size-gt1-via-else-size-gt1}
 
-pub loop-x-init : goal.loop-x-init
-loop-x-init g c = λ o. scan_begins (g.P.Space.means c.args.space.now) c.args.preference
-
 pub loop-x-preserved : goal.loop-x-preserved
 loop-x-preserved g c = λ o.
     let s = g.P.Space.means c.args.space.now in

@@ -15,9 +15,6 @@ loop-x-init g c = λ o. copied_none (g.P.Space.means c.args.self.now.space) c.ar
 pub returns-in-Ok-None : goal.returns-in-Ok-None
 returns-in-Ok-None g c = λ o a below e n m room. absurd (never_else (g.P.Space.means c.args.self.now.space) c.args.row.now c.loop-x.x (Ok None) a below e n m room (omega arith) (rw c.in-Ok-None.field-0-is at (c.in-Ok-None.ensures o)) differ)
 
-pub returns-in-Err : goal.returns-in-Err
-returns-in-Err g c = λ o a below e n m room. absurd (never_else (g.P.Space.means c.args.self.now.space) c.args.row.now c.loop-x.x (Err c.in-Err.field-0) a below e n m room (omega arith) (c.in-Err.ensures o) (refused c.in-Err.field-0))
-
 pub loop-x-preserved : goal.loop-x-preserved
 loop-x-preserved g c = λ o. copied_more (g.P.Space.means c.args.self.now.space) c.args.row.now c.loop-x.row c.loop-x.x c.in-Ok-Some.v (c.loop-x.invariant o) (omega arith) (rw c.in-Ok-Some.field-0-is at (c.in-Ok-Some.ensures o))
 

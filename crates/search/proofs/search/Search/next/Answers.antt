@@ -15,20 +15,6 @@ use Rattle.search.proofs.search.Search.next.Goals as goal
 stepped_at : (s t : SearchState) (r : Result (Option State) SearchFault) (o q : Option State) → Steps s r t → r ≡ Ok o → o ≡ q → Stepped s q t
 stepped_at s t r o q h e f = subst (λ (x : Result (Option State) SearchFault). Steps s x t) (e ∙ ap Ok f) h
 
-pub loop-count-init : goal.loop-count-init
-loop-count-init g c = (refl, λ o se. (start (view g.P.Space.means g.R.Rule.picks c.args.self.now) c.args.budget se, o))
-
-pub returns-in_default : goal.returns-in_default
-returns-in_default g c = λ o.
-    let means = g.P.Space.means in
-    let picks = g.R.Rule.picks in
-    let se = sym c.is_open.ensures ∙ c.if-not-is_open.false in
-    let mid = c.loop-count.invariant.1 o se in
-    let did = c.step.ensures mid.0.session mid.1 in
-    let h = stepped_at (view means picks c.loop-count.self) (view means picks c.step.new.self) c.step.result c.in_ok-state.field-0 None did.0 c.in_ok-state.was c.in_default.is in
-    let w = went_done (view means picks c.args.self.now) c.args.budget c.loop-count.count (view means picks c.loop-count.self) mid.0 c.args.row.now se (omega (arith, c.if-row-n.false, c.variables-n.ensures o.part)) (omega (arith, c.if-budget-eq0.false)) (view means picks c.step.new.self) h in
-    (subst (λ (new : List ℕ). Went (view means picks c.args.self.now) c.args.budget c.args.row.now (Done c.loop-count.count) (view means picks c.step.new.self) new) (sym c.loop-count.invariant.0) w, did.1)
-
 pub returns-in-Plan : goal.returns-in-Plan
 returns-in-Plan g c = λ o.
     let means = g.P.Space.means in
@@ -66,25 +52,3 @@ loop-count-preserved g c = (
       let t = view means picks c.step.new.self in
       (on (view means picks c.args.self.now) c.args.budget c.loop-count.count m mid.0 t c.in-Some.state c.loop-count-test.true (stepped_at m t c.step.result c.in_ok-state.field-0 (Some c.in-Some.state) did.0 c.in_ok-state.was c.in-Some.is) c.in_default-state.not-Plan, did.1),
 )
-
-pub returns-then-ends : goal.returns-then-ends
-returns-then-ends g c = λ o.
-    let means = g.P.Space.means in
-    let picks = g.R.Rule.picks in
-    let se = sym c.is_open.ensures ∙ c.if-not-is_open.false in
-    let mid = c.loop-count.invariant.1 o se in
-    let m = view means picks c.loop-count.self in
-    let over : c.loop-count.count ≡ c.args.budget = omega (arith, c.loop-count-test.false, c.loop-count.auto.count-end) in
-    let w = went_over_done (view means picks c.args.self.now) c.args.budget c.args.budget m (subst (λ (k : ℕ). Mid (view means picks c.args.self.now) c.args.budget k m) over mid.0) c.args.row.now se (omega (arith, c.if-row-n.false, c.variables-n.ensures o.part)) (omega (arith, c.if-budget-eq0.false)) (omega arith) (sym (c.ends.ensures mid.1 mid.0.session) ∙ c.if-ends.true) in
-    (subst (λ (new : List ℕ). Went (view means picks c.args.self.now) c.args.budget c.args.row.now (Done c.args.budget) m new) (sym c.loop-count.invariant.0) w, mid.1)
-
-pub returns-else-ends : goal.returns-else-ends
-returns-else-ends g c = λ o.
-    let means = g.P.Space.means in
-    let picks = g.R.Rule.picks in
-    let se = sym c.is_open.ensures ∙ c.if-not-is_open.false in
-    let mid = c.loop-count.invariant.1 o se in
-    let m = view means picks c.loop-count.self in
-    let over : c.loop-count.count ≡ c.args.budget = omega (arith, c.loop-count-test.false, c.loop-count.auto.count-end) in
-    let w = went_over_spent (view means picks c.args.self.now) c.args.budget c.args.budget m (subst (λ (k : ℕ). Mid (view means picks c.args.self.now) c.args.budget k m) over mid.0) c.args.row.now se (omega (arith, c.if-row-n.false, c.variables-n.ensures o.part)) (omega (arith, c.if-budget-eq0.false)) (omega arith) (sym (c.ends.ensures mid.1 mid.0.session) ∙ c.if-ends.false) in
-    (subst (λ (new : List ℕ). Went (view means picks c.args.self.now) c.args.budget c.args.row.now (Spent c.args.budget) m new) (sym c.loop-count.invariant.0) w, mid.1)

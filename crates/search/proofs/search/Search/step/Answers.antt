@@ -23,19 +23,6 @@ returns-in_err-take-in-Some g c = λ se o.
     absurd (take_goes m.problem (ruling m (picks s.rule)) (g.P.Space.laws s.space o.part).lawful (g.R.Rule.lawful s.rule m.problem) m (means c.take.new.self) refl m.pile c.in-Some.x c.in-Some.v c.in_err-take-in-Some.field-0.0
     (way means g.P.Space.sound picks s se o) (sym (c.in-Some.ensures o.part)) (g.P.Space.laws s.space o.part).standing (o.sits.deep se) (c.in_err-take-in-Some.ensures.does o.part).0)
 
-pub returns-then-nodes-le1 : goal.returns-then-nodes-le1
-returns-then-nodes-le1 g c = λ se o.
-    let s = c.args.self.now in
-    let means = g.P.Space.means in
-    let picks = g.R.Rule.picks in
-    let m = means s.space in
-    let laws = (g.P.Space.laws s.space o.part).lawful in
-    let lawful = g.R.Rule.lawful s.rule m.problem in
-    let closed : state m.problem.variables m.problem.width m.pile ≢ Now-open = λ k. rule-answers means g.P.Space.sound picks s se o laws lawful (sym k) (sym (c.in-None.ensures o.part)) in
-    let none = no_step means g.P.Space.sound picks s se o laws lawful _ (sym c.is_fresh.ensures ∙ c.if-is_fresh.false) refl closed (omega (arith, c.nodes.ensures o.part, c.if-nodes-le1.true)) in
-    let V : List Visit → Type 0 = λ q. Visits m.problem (ruling m (picks s.rule)) q None q m.pile in
-    (record { visits = subst V (sym none) refl; session = se; space = refl; rule = refl }, o)
-
 pub returns-in_err-turn-in-None : goal.returns-in_err-turn-in-None
 returns-in_err-turn-in-None g c = λ se o.
     let s = c.args.self.now in
