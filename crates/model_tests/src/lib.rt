@@ -8,11 +8,7 @@ mod tests {
     use std::alloc::{AllocError, Global};
     use std::process::Abort;
     use std::test::Fail;
-    use trial::{Refusal, told};
-
-    fn refused(number: u8, place: usize) -> Option<Refusal> {
-        Some(Refusal { number, place })
-    }
+    use trial::{Refusal, refused, told};
 
     // Reads the bytes, which are refused as told, or accepted.
     fn expect(rt: &impl Abort, bytes: &[u8], refusal: Option<Refusal>) {

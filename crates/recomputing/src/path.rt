@@ -6,6 +6,9 @@ ghost use Rattle.recomputing.specs.Walk.{Acts, Replays, Unwinds};
 use arrayvec::ArrayVec;
 use tables::table::{DomainTable, TableFault};
 
+// The most steps of a path: of each of 64 variables one value is taken and 63 are dropped.
+pub const STEPS: usize = 4096;
+
 // A step of the path: a take that stands, or a value that was dropped when its take was turned.
 #[derive(Clone, Copy, Drop)]
 pub enum Step {
@@ -41,7 +44,7 @@ pub fn replay<T: DomainTable>(table: &mut T, path: &[Step]) -> Result<(), TableF
 }
 
 // Takes the newest take off the path, with the steps after it, and answers what it took.
-pub fn unwind(path: &mut ArrayVec<Step, 4096>) -> Option<(usize, u8)>
+pub fn unwind(path: &mut ArrayVec<Step, STEPS>) -> Option<(usize, u8)>
     ensures unwinds { Unwinds (reverse path.old.items) (reverse path.new.items) result }
     ensures room { OnSome result (array_vec_len path.new < 4096) }
 {

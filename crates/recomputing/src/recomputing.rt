@@ -5,7 +5,7 @@ ghost use Rattle.spaces.specs.Tops.{opened, base_table};
 ghost use Rattle.recomputing.specs.Recomputed.{meaning, IsSound, depth_over};
 ghost use Rattle.recomputing.specs.Laws.{recomputing_laws};
 
-use crate::path::{Step, replay, unwind};
+use crate::path::{STEPS, Step, replay, unwind};
 use arrayvec::ArrayVec;
 use filtering::filter::Start;
 use kinds::kind::Kinds;
@@ -21,7 +21,7 @@ pub struct Recomputing<'m, T: DomainTable, K: Kinds> {
     // how many takes stand
     takes: usize,
     // Each step takes a value away, and there are at most 64 variables with 64 values.
-    path: ArrayVec<Step, 4096>,
+    path: ArrayVec<Step, STEPS>,
 }
 
 impl<'m, T: DomainTable, K: Kinds> Recomputing<'m, T, K> {

@@ -2,14 +2,10 @@
 use crate::judge::{Judge, MOST};
 use faults::Fault;
 use search::rule::Rule;
-use search::search::{Answer, Search, SearchFault};
+use search::search::{Answer, Search};
 use spaces::space::{Space, State};
 use std::alloc::{AllocError, Global};
-use trial::{Refusal, mixed, told};
-
-fn is_refused(answer: Result<Answer, SearchFault>, number: u8, place: usize) -> bool {
-    told(answer) == Some(Refusal { number, place })
-}
+use trial::{mixed, refused, told};
 
 fn untouched(row: &[u8]) -> bool {
     row.iter().all(|v| *v == 99)
@@ -103,15 +99,15 @@ impl<'a, P: Space, R: Rule> Bout<'a, P, R> {
             Err(fault) => fault.number() == 42 && fault.place() == 0,
         };
         begun
-            && (self.n == 0 || is_refused(self.search.next(0, &mut short), 44, 0))
-            && is_refused(self.search.next(0, &mut row), 45, 0)
+            && (self.n == 0 || told(self.search.next(0, &mut short)) == refused(44, 0))
+            && told(self.search.next(0, &mut row)) == refused(45, 0)
             && untouched(&row)
     }
 
     // With no session the space is as it was opened, and next is refused.
     fn rests(&mut self, sizes: u64) -> bool {
         let mut row = [99; MOST];
-        is_refused(self.search.next(5, &mut row), 43, 0)
+        told(self.search.next(5, &mut row)) == refused(43, 0)
             && untouched(&row)
             && self.search.space().state() == State::NoRun
             && self.search.space().nodes() == 0

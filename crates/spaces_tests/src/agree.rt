@@ -2,7 +2,7 @@
 use crate::judge::{Call, Judge, Node, count, has};
 use spaces::space::{Space, SpaceFault, State};
 use std::alloc::AllocError;
-use trial::{Refusal, mixed, told};
+use trial::{Refusal, mixed, refused, told};
 
 fn perform<S: Space>(space: &mut S, call: Call) -> Option<Refusal> {
     told(match call {
@@ -13,15 +13,15 @@ fn perform<S: Space>(space: &mut S, call: Call) -> Option<Refusal> {
     })
 }
 
-fn refused<X: Drop>(answer: Result<X, SpaceFault>, number: u8, place: usize) -> bool {
-    told(answer) == Some(Refusal { number, place })
+fn is_refused<X: Drop>(answer: Result<X, SpaceFault>, number: u8, place: usize) -> bool {
+    told(answer) == refused(number, place)
 }
 
 fn all_refused<S: Space>(space: &S, x: usize, number: u8, place: usize) -> bool {
-    refused(space.has(x, 0), number, place)
-        && refused(space.size(x), number, place)
-        && refused(space.least(x), number, place)
-        && refused(space.greatest(x), number, place)
+    is_refused(space.has(x, 0), number, place)
+        && is_refused(space.size(x), number, place)
+        && is_refused(space.least(x), number, place)
+        && is_refused(space.greatest(x), number, place)
 }
 
 fn least_of(set: u64) -> Option<u8> {
@@ -37,7 +37,7 @@ fn same_domain<S: Space>(space: &S, x: usize, set: u64) -> bool {
         && space.size(x) == Ok(count(set))
         && space.least(x) == Ok(least_of(set))
         && space.greatest(x) == Ok(greatest_of(set))
-        && refused(space.has(x, 64), 21, x)
+        && is_refused(space.has(x, 64), 21, x)
 }
 
 fn state_of(judge: &Judge) -> State {

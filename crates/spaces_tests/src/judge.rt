@@ -1,7 +1,7 @@
 // A space that keeps a copy of every node, and filters by testing every value against the rules until none goes.
 use crate::sample::{Rule, Sample, listed};
 use std::alloc::{AllocError, Global};
-use trial::Refusal;
+use trial::{Refusal, refused};
 
 #[derive(Clone, Copy, Drop)]
 pub enum Call {
@@ -138,10 +138,6 @@ fn filtered(sample: &Sample, sets: Sets) -> Node {
     Node::Failed(now)
 }
 
-fn refuse(number: u8, place: usize) -> Option<Refusal> {
-    Some(Refusal { number, place })
-}
-
 impl Judge {
     pub fn new(heap: Global, sample: Sample, base: Base) -> Judge {
         Judge {
@@ -174,13 +170,13 @@ impl Judge {
 
     fn enter(&mut self) -> Option<Refusal> {
         if self.top.is_some() {
-            return refuse(31, self.nodes());
+            return refused(31, self.nodes());
         }
         if self.base.domains != self.sample.variables as usize || self.base.marks != 0 {
-            return refuse(35, self.base.marks);
+            return refused(35, self.base.marks);
         }
         if self.base.room == 0 {
-            return refuse(12, 0);
+            return refused(12, 0);
         }
         self.top = Some(filtered(&self.sample, self.base.sets));
         None
@@ -188,16 +184,16 @@ impl Judge {
 
     fn take(&mut self, x: usize, v: u8) -> Result<Option<Refusal>, AllocError> {
         let mut sets = match self.top {
-            None => return Ok(refuse(32, 0)),
-            Some(Node::Failed(_)) => return Ok(refuse(33, self.nodes())),
+            None => return Ok(refused(32, 0)),
+            Some(Node::Failed(_)) => return Ok(refused(33, self.nodes())),
             Some(Node::Filtered(sets)) => sets,
         };
         let set = sets[x % 64];
         if x >= self.base.domains || count(set) < 2 || !has(set, v) {
-            return Ok(refuse(34, x));
+            return Ok(refused(34, x));
         }
         if self.takes() >= self.base.depth {
-            return Ok(refuse(12, self.nodes()));
+            return Ok(refused(12, self.nodes()));
         }
         self.forks.push(Fork { sets, x, v })?;
         sets[x % 64] = 1u64 << (v % 64);
@@ -207,10 +203,10 @@ impl Judge {
 
     fn turn(&mut self) -> Option<Refusal> {
         if self.top.is_none() {
-            return refuse(32, 0);
+            return refused(32, 0);
         }
         match self.forks.pop() {
-            None => refuse(36, 0),
+            None => refused(36, 0),
             Some(fork) => {
                 let mut sets = fork.sets;
                 sets[fork.x % 64] = without(sets[fork.x % 64], fork.v);
@@ -222,7 +218,7 @@ impl Judge {
 
     fn leave(&mut self) -> Option<Refusal> {
         if self.top.is_none() {
-            return refuse(32, 0);
+            return refused(32, 0);
         }
         self.forks = Vec::new(self.heap);
         self.top = None;

@@ -12,26 +12,10 @@ use stores::ceiling::Ceiling;
 use stores::copying::Copying;
 use stores::store::Store;
 use stores::tally::Tally;
-use stores::trail::{Cell, Entry, Trail};
+use stores::trail::Trail;
 use tables::table::DomainTable;
 use tables::words::WordTable;
-
-// What the memory lent to a trail holds before it is opened.
-const CELL: Cell = Cell { value: 9, stamp: 9 };
-
-const ENTRY: Entry = Entry {
-    cell: 3,
-    value: 9,
-    stamp: 9,
-};
-
-// Which store a table is opened over; the layers are a ceiling of half the depth, a tally and copies.
-#[derive(Clone, Copy, Debug, Drop)]
-pub enum Over {
-    Trail,
-    Copies,
-    Layers,
-}
+use trial::{CELL, ENTRY, Over};
 
 // The memory that is lent, marks that stand at the base, a variable whose domain is emptied there, and the script.
 #[derive(Clone, Copy, Drop)]

@@ -1,10 +1,10 @@
-use crate::memory::{Case, Given, Over};
+use crate::memory::{Case, Given};
 use crate::sample::{Rule, Sample, bytes_of, sample_by};
 use model::model::Model;
 use std::alloc::Global;
 use std::process::Abort;
 use std::test::Fail;
-use trial::mixed;
+use trial::{Over, mixed};
 
 fn agrees(rt: &impl Abort, heap: Global, sample: Sample, case: Case) -> Result<(), Fail> {
     let writer = bytes_of(heap, &sample)?;

@@ -8,21 +8,13 @@ use stores::ceiling::Ceiling;
 use stores::copying::Copying;
 use stores::store::Store;
 use stores::tally::Tally;
-use stores::trail::{Cell, Entry, Trail};
+use stores::trail::Trail;
 use tables::table::DomainTable;
 use tables::words::WordTable;
+use trial::{CELL, ENTRY, Over};
 
 // What is written to every cell before a table is opened.
 const DIRT: u64 = 0xa5a5_0000_ffff_1234;
-
-// What the memory lent to a trail holds before it is opened.
-const CELL: Cell = Cell { value: 9, stamp: 9 };
-
-const ENTRY: Entry = Entry {
-    cell: 3,
-    value: 9,
-    stamp: 9,
-};
 
 // Leaves dirty cells and some marks standing.
 fn soil<S: Store>(store: &mut S, marks: usize) {
@@ -44,14 +36,6 @@ fn holds<S: Store>(store: &S, judge: &Judge) -> bool {
         Ok(word) => word == DIRT,
         Err(_) => false,
     })
-}
-
-// Which store a table is opened over.
-#[derive(Clone, Copy, Debug, Drop)]
-pub enum Over {
-    Trail,
-    Copies,
-    Layers,
 }
 
 // The sizes of the memory lent to the store, and the most marks that its layers let through.

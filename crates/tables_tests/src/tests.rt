@@ -1,11 +1,11 @@
-use crate::opened::{Case, Over, Run};
+use crate::opened::{Case, Run};
 use crate::script::ladder;
 use model::model::Model;
 use model::values::Window;
 use std::alloc::Global;
 use std::process::Abort;
 use std::test::Fail;
-use trial::{Writer, any_calls};
+use trial::{Over, Writer, any_calls};
 
 fn window(low: u8, high: u8) -> Window {
     Window { low, high }

@@ -8,6 +8,7 @@ ghost use Rattle.trial.specs.Told.{tells};
 use faults::Fault;
 use model::values::{Term, Window};
 use std::alloc::{AllocError, Global};
+use stores::trail::{Cell, Entry};
 
 // The published number and place of a refusal.
 #[derive(Clone, Copy, PartialEq, Eq, Debug, Drop)]
@@ -28,6 +29,31 @@ pub fn told<X: Drop, F: Fault + Drop>(answer: Result<X, F>) -> Option<Refusal>
         }),
     }
 }
+
+// Refused with this number at this place.
+pub fn refused(number: u8, place: usize) -> Option<Refusal>
+    ensures { result ≡ Some (record { number = number; place = place }) }
+{
+    Some(Refusal { number, place })
+}
+
+// Which store is tried.
+#[derive(Clone, Copy, Debug, Drop)]
+pub enum Over {
+    Trail,
+    Copies,
+    // The layers over copies.
+    Layers,
+}
+
+// What the memory lent to a trail holds before it is opened.
+pub const CELL: Cell = Cell { value: 9, stamp: 9 };
+
+pub const ENTRY: Entry = Entry {
+    cell: 3,
+    value: 9,
+    stamp: 9,
+};
 
 // The next number by chance (Marsaglia 2003).
 pub fn mixed(seed: u64) -> u64 {
