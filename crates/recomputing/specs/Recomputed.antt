@@ -67,8 +67,8 @@ pub record Sound (Part : Type 0) (D : Demands) (m : Value) (t : TableState) (o :
 module _ {T K : Type 0} where
   -- what the space means, by what its table means
   abbrev pub meaning : Demands → (T → TableState) → Recomputing T K → SpaceState
-  meaning D means s = recomputing D (model-means s.base.model.now) (means s.base.table) s.base.top (reverse s.path.items)
+  meaning D means s = recomputing D (model-means s.base.model.now) (means s.base.table) s.base.top (reverse s.path)
 
   -- what holds of it where S holds of its table
   abbrev pub IsSound : (T → Type 0) → Demands → (T → TableState) → Recomputing T K → Type 0
-  IsSound S D means s = Sound (S s.base.table) D (model-means s.base.model.now) (means s.base.table) s.base.top s.takes (reverse s.path.items)
+  IsSound S D means s = Sound (S s.base.table) D (model-means s.base.model.now) (means s.base.table) s.base.top s.takes (reverse s.path)

@@ -5,8 +5,7 @@ ghost use Rattle.spaces.specs.Tops.{opened, base_table};
 ghost use Rattle.recomputing.specs.Recomputed.{meaning, IsSound, depth_over};
 ghost use Rattle.recomputing.specs.Laws.{recomputing_laws};
 
-use crate::path::{STEPS, Step, replay, unwind};
-use arrayvec::ArrayVec;
+use crate::path::{Path, Step, replay, unwind};
 use filtering::filter::Start;
 use kinds::kind::Kinds;
 use model::model::Model;
@@ -21,7 +20,7 @@ pub struct Recomputing<'m, T: DomainTable, K: Kinds> {
     // how many takes stand
     takes: usize,
     // Each step takes a value away, and there are at most 64 variables with 64 values.
-    path: ArrayVec<Step, STEPS>,
+    path: Path,
 }
 
 impl<'m, T: DomainTable, K: Kinds> Recomputing<'m, T, K> {
@@ -30,7 +29,7 @@ impl<'m, T: DomainTable, K: Kinds> Recomputing<'m, T, K> {
         ensures means { meaning K.Kinds.demands T.DomainTable.means result ≡ opened (problem K.Kinds.demands (model-means model.now) (T.DomainTable.means table).width) (T.DomainTable.means table) (depth_over (T.DomainTable.means table).depth) }
         ensures sound { T.DomainTable.sound table → IsSound T.DomainTable.sound K.Kinds.demands T.DomainTable.means result }
     {
-        let path = ArrayVec::new();
+        let path = Path::new();
         Recomputing {
             base: Base::open(table, kinds, model),
             takes: 0,
@@ -57,7 +56,7 @@ impl<'m, T: DomainTable, K: Kinds> Space for Recomputing<'m, T, K> {
 
     ghost sound = { IsSound T.DomainTable.sound K.Kinds.demands T.DomainTable.means };
 
-    ghost laws = { λ s sound. recomputing_laws K.Kinds.demands (model-means s.base.model.now) (T.DomainTable.sound s.base.table) (T.DomainTable.means s.base.table) s.base.top s.takes (reverse s.path.items) (T.DomainTable.bounded s.base.table sound.part) sound };
+    ghost laws = { λ s sound. recomputing_laws K.Kinds.demands (model-means s.base.model.now) (T.DomainTable.sound s.base.table) (T.DomainTable.means s.base.table) s.base.top s.takes (reverse s.path) (T.DomainTable.bounded s.base.table sound.part) sound };
 
     fn enter(&mut self) -> Result<(), SpaceFault> {
         if self.base.top.is_some() {

@@ -15,5 +15,5 @@ returns-clause-sound g c = λ sd.
       few = few_variables m b.model.now.valid;
       counted = sym (ap (λ q. length (taken (reverse q))) c.new-path.ensures);
       most = omega arith;
-      runs = subst (λ o. Runs g.K.Kinds.demands m (g.T.DomainTable.means b.table) o (reverse c.new-path.result.items)) (sym c.open.ensures.idle) (ap reverse c.new-path.ensures);
+      runs = subst (λ o. Runs g.K.Kinds.demands m (g.T.DomainTable.means b.table) o (reverse c.new-path.result)) (sym c.open.ensures.idle) (ap reverse c.new-path.ensures);
     }

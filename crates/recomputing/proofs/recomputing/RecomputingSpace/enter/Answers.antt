@@ -12,7 +12,7 @@ returns-clause-does g c = λ sd.
     let D = g.K.Kinds.demands in
     let tm = g.T.DomainTable.means in
     let S = g.T.DomainTable.sound in
-    let ss = reverse s.path.items in
+    let ss = reverse s.path in
     let h = c.begin.ensures.does sd.part in
     enter_well D (model-means s.base.model.now) (S s.base.table) (tm s.base.table) s.takes ss (S b.table) (tm b.table) (model-means b.model.now) s.base.top b.top c.begin.result
     (g.T.DomainTable.bounded s.base.table sd.part) sd h.1 (sym c.is_some.ensures ∙ c.if-is_some.false) (ap (λ q. model-means q.now) c.begin.ensures.model) h.0

@@ -12,7 +12,7 @@ pub returns-in_default : goal.returns-in_default
 returns-in_default g c =
     let s = c.args.self.now in
     let no_way : IsSound g.T.DomainTable.sound g.K.Kinds.demands g.T.DomainTable.means s → ⊥ = λ sd.
-    let e : length (taken (reverse s.path.items)) ≡ 0 = no_take (reverse s.path.items) c.in_default.ensures.unwinds in
+    let e : length (taken (reverse s.path)) ≡ 0 = no_take (reverse s.path) c.in_default.ensures.unwinds in
     let h = sd.counted in
     let t = c.if-self-eq0.false in
     omega arith in
@@ -26,15 +26,15 @@ returns-in_err-replay g c =
     let tm = g.T.DomainTable.means in
     let S = g.T.DomainTable.sound in
     let t = tm s.base.table in
-    let ss = reverse s.path.items in
+    let ss = reverse s.path in
     let on = c.is_none.ensures ∙ ap not c.if-is_none.false in
     let no_way : IsSound S D tm s → ⊥ = λ sd.
     let k = c.in_ok-restore.ensures.does sd.part in
     let h = c.in_ok-mark.ensures.does k.1 in
     let e = rebased D m (S s.base.table) t s.takes ss s.base.top (tm c.restore.new.self) (tm c.mark.new.self) sd.runs on k.0 h.0 in
-    let pp = reverse_push c.unwind.new.path.items c.as_slice.result.now (Drop c.in-Some.x c.in-Some.v) (c.as_slice.ensures.value ∙ c.push.ensures.items) in
+    let pp = reverse_push c.unwind.new.path c.as_slice.result.now (Drop c.in-Some.x c.in-Some.v) (c.as_slice.ensures ∙ c.push.ensures) in
     let r = c.in_err-replay.ensures h.1 in
-    replays D m (S s.base.table) t s.takes ss s.base.top (tm c.mark.new.self) (tm c.replay.new.table) (reverse c.unwind.new.path.items) (reverse c.as_slice.result.now) c.in-Some.x c.in-Some.v c.in_err-replay.field-0.0
+    replays D m (S s.base.table) t s.takes ss s.base.top (tm c.mark.new.self) (tm c.replay.new.table) (reverse c.unwind.new.path) (reverse c.as_slice.result.now) c.in-Some.x c.in-Some.v c.in_err-replay.field-0.0
     (g.T.DomainTable.bounded s.base.table sd.part) sd on c.in-Some.ensures.unwinds e pp r.0 in
     record { does = never no_way; refused = never no_way }
 
@@ -47,15 +47,15 @@ returns-clause-does g c = λ sd.
     let S = g.T.DomainTable.sound in
     let t = tm s.base.table in
     let z = c.filtered.new.self in
-    let ss = reverse s.path.items in
+    let ss = reverse s.path in
     let on = c.is_none.ensures ∙ ap not c.if-is_none.false in
     let k = c.in_ok-restore.ensures.does sd.part in
     let h = c.in_ok-mark.ensures.does k.1 in
     let e = rebased D m (S s.base.table) t s.takes ss s.base.top (tm c.restore.new.self) (tm c.mark.new.self) sd.runs on k.0 h.0 in
-    let pp = reverse_push c.unwind.new.path.items c.push.new.self.items (Drop c.in-Some.x c.in-Some.v) c.push.ensures.items in
+    let pp = reverse_push c.unwind.new.path c.push.new.self (Drop c.in-Some.x c.in-Some.v) c.push.ensures in
     let r = c.in_ok-replay.ensures h.1 in
     let n = ap (λ q. q.variables) r.0 ∙ ap (λ q. q.variables) e ∙ run-variables D m t s.base.top ss on sd.runs in
     let f = c.in_ok-filtered.ensures.does r.1 in
     rw c.in_ok-filtered.ensures.model
-    (turn_done D m (S s.base.table) t s.takes ss (S z.table) s.base.top z.top (tm c.mark.new.self) (tm c.replay.new.table) (tm z.table) (reverse c.unwind.new.path.items) (reverse c.push.new.self.items) c.in-Some.x c.in-Some.v
-    (g.T.DomainTable.bounded s.base.table sd.part) sd f.1 on c.in-Some.ensures.unwinds e pp (subst (λ q. Replays (tm c.mark.new.self) (reverse q) (tm c.replay.new.table) (Ok tt)) c.as_slice.ensures.value r.0) (f.0 n tt))
+    (turn_done D m (S s.base.table) t s.takes ss (S z.table) s.base.top z.top (tm c.mark.new.self) (tm c.replay.new.table) (tm z.table) (reverse c.unwind.new.path) (reverse c.push.new.self) c.in-Some.x c.in-Some.v
+    (g.T.DomainTable.bounded s.base.table sd.part) sd f.1 on c.in-Some.ensures.unwinds e pp (subst (λ q. Replays (tm c.mark.new.self) (reverse q) (tm c.replay.new.table) (Ok tt)) c.as_slice.ensures r.0) (f.0 n tt))
