@@ -184,7 +184,7 @@ module _ (a : SearchState) where
           left = λ k. w.left ∙ ap (λ (vs : List Visit). left_by (scan vs n) vs) q ∙ drop-drop (counted f) m all ∙ ap (λ (i : ℕ). drop i all) (sym sum);
         }
 
-    close_reached : (s t : SearchState) (cs : List Call) (b : Bool) → Reached s cs b → s.session ≡ true → t ≡ record { session = false; fresh = false; space = piled s.space [] []; rule = s.rule } → Reached t cs b
+    close_reached : (s t : SearchState) (cs : List Call) (b : Bool) → Reached s cs b → s.session ≡ true → t ≡ record { session = false; fresh = s.fresh; space = piled s.space [] []; rule = s.rule } → Reached t cs b
     close_reached s t cs b h o is =
         let back : piled s.space [] [] ≡ a.space = ap (λ (x : SpaceState). piled x [] []) h.space ∙ sym (h.empty (h.session o)) in
         subst (λ (x : SearchState). Reached x cs b) (sym is) (record {

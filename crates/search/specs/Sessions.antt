@@ -14,7 +14,7 @@ use Rattle.search.specs.Choosing.{ruling}
 use Rattle.search.specs.Remaining.{remaining, Sitting}
 use Rattle.search.specs.declared.search.Search.{Search}
 use Rattle.search.specs.declared.search.Session.{Session}
-use Rattle.search.specs.declared.search.Session.TheVariants.{Closed, Fresh, Visited}
+use Rattle.search.specs.declared.search.Session.TheVariants.{Closed, Fresh, Visited, Left}
 use Rattle.search.specs.declared.search.Ticket.{Ticket}
 use Rattle.search.specs.declared.search.Answer.{Answer}
 use Rattle.search.specs.declared.search.Answer.TheVariants.{Plan as A-plan, Done, Spent}
@@ -46,11 +46,13 @@ abbrev pub has_session : Session → Bool
 has_session Closed = false
 has_session Fresh = true
 has_session Visited = true
+has_session Left = false
 
 abbrev pub has_unvisited : Session → Bool
 has_unvisited Closed = false
 has_unvisited Fresh = true
 has_unvisited Visited = false
+has_unvisited Left = true
 
 -- What a search means: whether a session is open, whether the top is still to visit, the space, and the rule for its variables.
 pub record SearchState : Type 0 where
@@ -106,7 +108,7 @@ module _ {S : Type 0} (view : S → SearchState) where
   -- close
 
   abbrev pub Closes : S → Result (Unit {0}) SearchFault → S → Type 0
-  Closes a (Ok u) b = ((view a).session ≡ true) × (view b ≡ record { session = false; fresh = false; space = piled (view a).space [] []; rule = (view a).rule })
+  Closes a (Ok u) b = ((view a).session ≡ true) × (view b ≡ record { session = false; fresh = (view a).fresh; space = piled (view a).space [] []; rule = (view a).rule })
   Closes a (Err e) b = (b ≡ a) × ((view a).session ≡ false) × Says e 43 0
 
 -- next

@@ -56,19 +56,33 @@ enum Session {
     Fresh,
     // A session is open, and the top of the space was visited.
     Visited,
+    // No session is open, and the one before closed with its top not visited yet.
+    Left,
 }
 
 impl Session {
     fn is_open(self) -> bool
         ensures { result ≡ has_session self }
     {
-        !matches!(self, Session::Closed)
+        !matches!(self, Session::Closed | Session::Left)
     }
 
     fn is_fresh(self) -> bool
         ensures { result ≡ has_unvisited self }
     {
-        matches!(self, Session::Fresh)
+        matches!(self, Session::Fresh | Session::Left)
+    }
+
+    // With no session open, and of its top what was so before.
+    fn closed(self) -> Session
+        ensures session { has_session result ≡ false }
+        ensures top { has_unvisited result ≡ has_unvisited self }
+    {
+        if self.is_fresh() {
+            Session::Left
+        } else {
+            Session::Closed
+        }
     }
 }
 
@@ -168,7 +182,7 @@ impl<P: Space, R: Rule> Search<P, R> {
             return Err(SearchFault::Idle);
         }
         self.space.leave()?;
-        self.session = Session::Closed;
+        self.session = self.session.closed();
         Ok(())
     }
 
