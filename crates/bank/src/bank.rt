@@ -59,7 +59,10 @@ impl<K: Kind, R: Kinds> Kinds for Bank<K, R> {
         item: usize,
         table: &mut T,
     ) -> Result<Shrunk, TableFault> {
-        if number_at(model, item) == Some(K::NUMBER) {
+        let Some(number) = number_at(model, item) else {
+            return Ok(Shrunk::none());
+        };
+        if number == K::NUMBER {
             self.kind.pass(model, item, table)
         } else {
             self.rest.pass(model, item, table)
