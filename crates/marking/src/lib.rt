@@ -26,6 +26,13 @@ fn rewind<T: DomainTable>(table: &mut T, k: usize) -> Result<(), TableFault>
     table.restore()
 }
 
+// What was taken where no take stands yet.
+fn untaken() -> ArrayVec<(usize, u8), MOST>
+    ensures { result.items ≡ [] }
+{
+    ArrayVec::new()
+}
+
 // A space that marks its table at the base and at each take.
 #[derive(Drop)]
 pub struct Marking<'m, T: DomainTable, K: Kinds> {
@@ -40,10 +47,9 @@ impl<'m, T: DomainTable, K: Kinds> Marking<'m, T, K> {
         ensures means { meaning K.Kinds.demands T.DomainTable.means result ≡ opened (problem K.Kinds.demands (model-means model.now) (T.DomainTable.means table).width) (T.DomainTable.means table) (depth_over (T.DomainTable.means table).depth) }
         ensures sound { T.DomainTable.sound table → IsSound T.DomainTable.sound K.Kinds.demands T.DomainTable.means result }
     {
-        let choices = ArrayVec::new();
         Marking {
             base: Base::open(table, kinds, model),
-            choices,
+            choices: untaken(),
         }
     }
 

@@ -12,5 +12,5 @@ returns-clause-sound g c = λ sd.
       part = subst g.T.DomainTable.sound (sym c.open.ensures.parts.0) sd;
       lawful = problem-lawful g.K.Kinds.demands m (g.T.DomainTable.means b.table).width g.met.K.Kinds.lawful b.model.now.valid;
       few = few_variables m b.model.now.valid;
-      runs = subst (λ o. Runs g.K.Kinds.demands m (g.T.DomainTable.means b.table) o (reverse c.new-choices.result.items)) (sym c.open.ensures.idle) (ap reverse c.new-choices.ensures);
+      runs = subst (λ o. Runs g.K.Kinds.demands m (g.T.DomainTable.means b.table) o (reverse c.untaken.result.items)) (sym c.open.ensures.idle) (ap reverse c.untaken.ensures);
     }
